@@ -1,0 +1,3 @@
+//! Bit-packed fields, most significant bit first.
+
+pub mod reader;

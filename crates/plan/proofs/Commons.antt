@@ -1,0 +1,68 @@
+-- Common multiples of a list: one period more, and whether there is one up to a limit.
+use mathlib.Core.Bool.{Bool, true, false}
+use mathlib.Core.List.{List, [], _∷_, _++_}
+use mathlib.Core.Logic.{⊎-elim}
+use mathlib.Core.Path.{_≡_, refl, subst}
+use Prim.Native.Nat.{ℕ, zero, suc, _%_, _<_, _≤_, _∣_}
+use native.Mathlib.Nat.{dvd-trans, eq-or-lt-of-le, le-of-dvd, mod-eq-zero-of-dvd, dvd-of-mod-eq-zero}
+use native.Mathlib.Omega.{arith}
+use lib.Dec.{eqb}
+use Rattle.std.proofs.shelf.Tests.{eq-eqb, eqb-true, and-parts, and-from, or-left, or-right, or-from, cases-bool}
+use Rattle.plan.specs.Periods.{common, commonUpTo, IsLcm, Joins}
+
+divides : (t m : ℕ) → eqb (m % t) 0 ≡ true → t ∣ m
+divides t m e = dvd-of-mod-eq-zero t (eqb-true (m % t) 0 e)
+
+divided : (t m : ℕ) → t ∣ m → eqb (m % t) 0 ≡ true
+divided t m e = eq-eqb (m % t) 0 (mod-eq-zero-of-dvd t e)
+
+-- a multiple of a common multiple is one too
+pub common-over : (h m : ℕ) (ts : List ℕ) → common h ts ≡ true → h ∣ m → common m ts ≡ true
+common-over h m [] e d = refl
+common-over h m (t ∷ ts) e d =
+    let s = and-parts (eqb (h % t) 0) (common h ts) e in
+    and-from _ _ (divided t m (dvd-trans t (divides t h (s .0)) d)) (common-over h m ts (s .1) d)
+
+pub common-push : (m t : ℕ) (ts : List ℕ) → common m ts ≡ true → t ∣ m → common m (ts ++ (t ∷ [])) ≡ true
+common-push m t [] e d = and-from _ _ (divided t m d) refl
+common-push m t (u ∷ ts) e d =
+    let s = and-parts (eqb (m % u) 0) (common m ts) e in
+    and-from _ _ (s .0) (common-push m t ts (s .1) d)
+
+pub common-pushed : (m t : ℕ) (ts : List ℕ) → common m (ts ++ (t ∷ [])) ≡ true → (common m ts ≡ true) × (t ∣ m)
+common-pushed m t [] e = (refl, divides t m (and-parts (eqb (m % t) 0) true e .0))
+common-pushed m t (u ∷ ts) e =
+    let s = and-parts (eqb (m % u) 0) (common m (ts ++ (t ∷ []))) e in
+    let r = common-pushed m t ts (s .1) in
+    (and-from _ _ (s .0) (r .0), r .1)
+
+pub lcm-none : IsLcm 1 []
+lcm-none = (omega arith, refl, λ m e. dvd-of-mod-eq-zero 1 (omega arith))
+
+pub lcm-push : (h t n : ℕ) (ts : List ℕ) → IsLcm h ts → Joins n h t → IsLcm n (ts ++ (t ∷ []))
+lcm-push h t n ts l j =
+    (j .positive,
+     common-push n t ts (common-over h n ts (l .1) (j .left)) (j .right),
+     λ m e. let s = common-pushed m t ts e in j .least m (l .2 m (s .0)) (s .1))
+
+-- a common multiple up to the limit is found
+pub common-found : (k n : ℕ) (ts : List ℕ) → 0 < n → n ≤ k → common n ts ≡ true → commonUpTo k ts ≡ true
+unfolding commonUpTo
+common-found zero n ts p q e = absurd (omega arith)
+common-found (suc k) n ts p q e =
+    ⊎-elim
+      (λ same. or-left (common (suc k) ts) (commonUpTo k ts) (subst (λ (z : ℕ). common z ts ≡ true) same e))
+      (λ below. or-right (common (suc k) ts) (commonUpTo k ts) (common-found k n ts p (omega arith) e))
+      (eq-or-lt-of-le q)
+
+-- there is none below the least
+pub common-missing : (k n : ℕ) (ts : List ℕ) → k < n → IsLcm n ts → commonUpTo k ts ≡ false
+unfolding commonUpTo
+common-missing zero n ts p l = refl
+common-missing (suc k) n ts p l =
+    or-from (common (suc k) ts) (commonUpTo k ts)
+      (⊎-elim
+        (λ found. let above : n ≤ suc k = le-of-dvd (omega arith) (l .2 (suc k) found) in absurd (omega arith))
+        (λ none. none)
+        (cases-bool (common (suc k) ts)))
+      (common-missing k n ts (omega arith) l)

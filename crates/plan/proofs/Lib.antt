@@ -1,0 +1,4 @@
+mod Multiples
+mod Commons
+mod Lines
+mod HeadBits

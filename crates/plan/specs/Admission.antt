@@ -1,0 +1,80 @@
+-- Which byte strings are plans, and what is wrong with the others. Assumes nothing.
+--     Content               what a plan says: the block reload time and the tasks
+--     hyperperiodLimit      the longest common period of an admitted plan
+--     headChecks bs         the checks of the head, in their order
+--     rowChecks b i         the checks of row i of the body b, in their order
+--     rowsChecks b n        the checks of the first n rows
+--     extraChecks bs        the check that nothing follows the last row
+--     checks bs             all checks of the bytes bs, in their order
+--     admission bs          the content that bs spells, or the fault of the first check that is wrong
+use mathlib.Core.Bool.{Bool, true, not}
+use mathlib.Core.List.{List, [], _∷_, _++_}
+use Prim.Native.Nat.{ℕ, _+_, _*_}
+use lib.Dec.{eqb, ltb}
+use lib.ListN.{length}
+use Rattle.std.specs.Iters.{counting}
+use Rattle.std.specs.Joined.{joined}
+use Rattle.std.specs.declared.option.Option.{Option}
+use Rattle.std.specs.declared.option.Option.the-variants.{None, Some}
+use Rattle.std.specs.declared.result.Result.{Result}
+use Rattle.std.specs.declared.result.Result.the-variants.{Ok, Err}
+use Rattle.fault.specs.declared.Cause.{Cause}
+use Rattle.fault.specs.declared.Cause.the-variants.{EndsEarly, ExtraBytes, UnknownRevision, SpareBitsSet, ZeroPeriod, TimesOutOfOrder, UsefulNotEvicting, HyperperiodTooLong}
+use Rattle.fault.specs.declared.Fault.{Fault}
+use Rattle.fault.specs.declared.Layer.{Layer}
+use Rattle.fault.specs.declared.Layer.the-variants.{Bytes, Plan}
+use Rattle.plan.specs.declared.tasks.Task.{Task}
+use Rattle.plan.specs.Checks.{Check, check, firstWrong}
+use Rattle.plan.specs.Layout.{revisionOf, countOf, reloadOf, headSpareOf, body, rowBytes, spareOf, rowOf, rowsOf, rowBit}
+use Rattle.plan.specs.Periods.{commonUpTo}
+use Rattle.plan.specs.Tasks.{zeroPeriod, timesOutOfOrder, usefulNotEvicting, periods}
+
+pub record Content : Type 0 where
+  pub reload : ℕ
+  pub tasks : List Task
+
+abbrev pub hyperperiodLimit : ℕ
+hyperperiodLimit = 1000000000
+
+abbrev pub fault : Layer → Cause → Option ℕ → Option ℕ → Fault
+fault layer cause row bit = record { layer = layer; cause = cause; row = row; bit = bit }
+
+-- The head is too short, has another revision than 1, or has spare bits set.
+abbrev pub headChecks : List ℕ → List (Check Fault)
+headChecks bs =
+    check (ltb (length bs) 2) (fault Bytes EndsEarly None (Some (8 * length bs)))
+    ∷ check (not (eqb (revisionOf bs) 1)) (fault Bytes UnknownRevision None (Some 0))
+    ∷ check (not (eqb (headSpareOf bs) 0)) (fault Bytes SpareBitsSet None (Some 14))
+    ∷ []
+
+-- The row is cut, has spare bits set, or breaks a rule of its task; or it makes the common period too long.
+abbrev pub rowChecks : List ℕ → ℕ → List (Check Fault)
+rowChecks b i =
+    check (ltb (length (rowBytes b i)) 29) (fault Bytes EndsEarly (Some i) (Some (16 + 8 * length b)))
+    ∷ check (not (eqb (spareOf (rowBytes b i)) 0)) (fault Bytes SpareBitsSet (Some i) (Some (rowBit i 228)))
+    ∷ check (zeroPeriod (rowOf b i)) (fault Plan ZeroPeriod (Some i) (Some (rowBit i 20)))
+    ∷ check (timesOutOfOrder (rowOf b i)) (fault Plan TimesOutOfOrder (Some i) (Some (rowBit i 60)))
+    ∷ check (usefulNotEvicting (rowOf b i)) (fault Plan UsefulNotEvicting (Some i) (Some (rowBit i 100)))
+    ∷ check (not (commonUpTo hyperperiodLimit (periods (rowsOf b (i + 1))))) (fault Plan HyperperiodTooLong (Some i) None)
+    ∷ []
+
+abbrev pub rowsChecks : List ℕ → ℕ → List (Check Fault)
+rowsChecks b n = joined (rowChecks b) (counting 0 n)
+
+abbrev pub extraChecks : List ℕ → List (Check Fault)
+extraChecks bs =
+    check (ltb (29 * countOf bs) (length (body bs))) (fault Bytes ExtraBytes None (Some (rowBit (countOf bs) 0)))
+    ∷ []
+
+abbrev pub checks : List ℕ → List (Check Fault)
+checks bs = headChecks bs ++ (rowsChecks (body bs) (countOf bs) ++ extraChecks bs)
+
+abbrev pub contentIn : List ℕ → Content
+contentIn bs = record { reload = reloadOf bs; tasks = rowsOf (body bs) (countOf bs) }
+
+abbrev pub unless : {X F : Type 0} → Option F → X → Result X F
+unless None x = Ok x
+unless (Some f) x = Err f
+
+abbrev pub admission : List ℕ → Result Content Fault
+admission bs = unless (firstWrong (checks bs)) (contentIn bs)

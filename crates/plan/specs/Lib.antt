@@ -1,0 +1,9 @@
+pub mod Blocks
+pub mod Periods
+pub mod Tasks
+pub mod Checks
+pub mod Flaws
+pub mod Layout
+pub mod Admission
+pub mod Heads
+pub mod Plans

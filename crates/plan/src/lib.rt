@@ -1,0 +1,11 @@
+//! Plans.
+
+mod admitted;
+mod blocks;
+mod heads;
+mod periods;
+mod tasks;
+
+pub use admitted::Plan;
+pub use blocks::CacheBlocks;
+pub use tasks::Task;
