@@ -2,3 +2,6 @@ mod Multiples
 mod Commons
 mod Lines
 mod HeadBits
+mod FirstWrong
+mod RowLaws
+mod RowsLaws

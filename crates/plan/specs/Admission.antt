@@ -2,6 +2,8 @@
 --     Content               what a plan says: the block reload time and the tasks
 --     hyperperiodLimit      the longest common period of an admitted plan
 --     headChecks bs         the checks of the head, in their order
+--     byteChecks b i, periodChecks b i      the checks of the bytes of row i of the body b, and of the common period at it
+--     inRow i               how a broken rule of row i is answered
 --     rowChecks b i         the checks of row i of the body b, in their order
 --     rowsChecks b n        the checks of the first n rows
 --     extraChecks bs        the check that nothing follows the last row
@@ -19,15 +21,16 @@ use Rattle.std.specs.declared.option.Option.the-variants.{None, Some}
 use Rattle.std.specs.declared.result.Result.{Result}
 use Rattle.std.specs.declared.result.Result.the-variants.{Ok, Err}
 use Rattle.fault.specs.declared.Cause.{Cause}
-use Rattle.fault.specs.declared.Cause.the-variants.{EndsEarly, ExtraBytes, UnknownRevision, SpareBitsSet, ZeroPeriod, TimesOutOfOrder, UsefulNotEvicting, HyperperiodTooLong}
+use Rattle.fault.specs.declared.Cause.the-variants.{EndsEarly, ExtraBytes, UnknownRevision, SpareBitsSet, HyperperiodTooLong}
 use Rattle.fault.specs.declared.Fault.{Fault}
 use Rattle.fault.specs.declared.Layer.{Layer}
 use Rattle.fault.specs.declared.Layer.the-variants.{Bytes, Plan}
 use Rattle.plan.specs.declared.tasks.Task.{Task}
 use Rattle.plan.specs.Checks.{Check, check, firstWrong}
+use Rattle.plan.specs.Flaws.{ruleChecks}
 use Rattle.plan.specs.Layout.{revisionOf, countOf, reloadOf, headSpareOf, body, rowBytes, spareOf, rowOf, rowsOf, rowBit}
 use Rattle.plan.specs.Periods.{commonUpTo}
-use Rattle.plan.specs.Tasks.{zeroPeriod, timesOutOfOrder, usefulNotEvicting, periods}
+use Rattle.plan.specs.Tasks.{periods}
 
 pub record Content : Type 0 where
   pub reload : ℕ
@@ -47,16 +50,25 @@ headChecks bs =
     ∷ check (not (eqb (headSpareOf bs) 0)) (fault Bytes SpareBitsSet None (Some 14))
     ∷ []
 
--- The row is cut, has spare bits set, or breaks a rule of its task; or it makes the common period too long.
-abbrev pub rowChecks : List ℕ → ℕ → List (Check Fault)
-rowChecks b i =
+-- The row is cut, or has spare bits set.
+abbrev pub byteChecks : List ℕ → ℕ → List (Check Fault)
+byteChecks b i =
     check (ltb (length (rowBytes b i)) 29) (fault Bytes EndsEarly (Some i) (Some (16 + 8 * length b)))
     ∷ check (not (eqb (spareOf (rowBytes b i)) 0)) (fault Bytes SpareBitsSet (Some i) (Some (rowBit i 228)))
-    ∷ check (zeroPeriod (rowOf b i)) (fault Plan ZeroPeriod (Some i) (Some (rowBit i 20)))
-    ∷ check (timesOutOfOrder (rowOf b i)) (fault Plan TimesOutOfOrder (Some i) (Some (rowBit i 60)))
-    ∷ check (usefulNotEvicting (rowOf b i)) (fault Plan UsefulNotEvicting (Some i) (Some (rowBit i 100)))
-    ∷ check (not (commonUpTo hyperperiodLimit (periods (rowsOf b (i + 1))))) (fault Plan HyperperiodTooLong (Some i) None)
     ∷ []
+
+-- A rule that the task of row i breaks is named with its field's first bit.
+abbrev pub inRow : ℕ → Cause → ℕ → Fault
+inRow i cause first = fault Plan cause (Some i) (Some (rowBit i first))
+
+-- The periods of the rows up to this one have no common multiple within the limit.
+abbrev pub periodChecks : List ℕ → ℕ → List (Check Fault)
+periodChecks b i =
+    check (not (commonUpTo hyperperiodLimit (periods (rowsOf b (i + 1))))) (fault Plan HyperperiodTooLong (Some i) None)
+    ∷ []
+
+abbrev pub rowChecks : List ℕ → ℕ → List (Check Fault)
+rowChecks b i = byteChecks b i ++ (ruleChecks (inRow i) (rowOf b i) ++ periodChecks b i)
 
 abbrev pub rowsChecks : List ℕ → ℕ → List (Check Fault)
 rowsChecks b n = joined (rowChecks b) (counting 0 n)

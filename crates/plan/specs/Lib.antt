@@ -6,4 +6,5 @@ pub mod Flaws
 pub mod Layout
 pub mod Admission
 pub mod Heads
+pub mod Rows
 pub mod Plans

@@ -4,6 +4,7 @@ mod admitted;
 mod blocks;
 mod heads;
 mod periods;
+mod rows;
 mod tasks;
 
 pub use admitted::Plan;

@@ -1,9 +1,8 @@
 //! One task of a plan, and the rules that it keeps.
 
-ghost use mathlib.Core.List.{[], _∷_};
 ghost use mathlib.Core.Path.{_≡_};
 ghost use Rattle.plan.specs.Checks.{firstWrong};
-ghost use Rattle.plan.specs.Flaws.{ruleChecks};
+ghost use Rattle.plan.specs.Flaws.{flawAt, ruleChecks};
 
 use crate::blocks::{CacheBlocks, CacheBlocksDebug, CacheBlocksPartialEq};
 use fault::Cause;
@@ -25,13 +24,13 @@ pub struct Task {
 #[derive(Clone, Copy)]
 pub(crate) struct Flaw {
     pub(crate) cause: Cause,
-    pub(crate) first: u64,
+    pub(crate) first: u8,
 }
 
 impl Task {
     /// The first rule that this task breaks by itself, if there is one.
     pub(crate) fn flaw(self) -> Option<Flaw>
-        ensures { λ r. ⌜ r ≡ firstWrong (ruleChecks self) ⌝ }
+        ensures { λ r. ⌜ r ≡ firstWrong (ruleChecks flawAt self) ⌝ }
     {
         if self.period == 0 {
             return Some(Flaw { cause: Cause::ZeroPeriod, first: 20 });

@@ -2,9 +2,10 @@ ghost use lib.Dec.{leb};
 ghost use lib.ListN.{length};
 ghost use mathlib.Core.Bool.{cond};
 ghost use mathlib.Core.Path.{_≡_};
-ghost use Prim.Native.Nat.{_+_, _*_, _<_};
+ghost use Prim.Native.Nat.{_+_, _*_, _^_, _<_};
 ghost use Rattle.bits.specs.Bits.{bit, spelled};
 ghost use Rattle.bits.specs.Readers.{bytesOf, placeOf, available};
+ghost use Rattle.std.specs.Options.{Cases};
 ghost use Rattle.std.specs.declared.option.Option.the-variants.{None, Some};
 
 use super::BitReader;
@@ -33,6 +34,7 @@ impl<'a> BitReader<'a> {
         ensures value { λ r. ⌜ r ≡ cond (available (now (self .entry)) width) (Some (spelled (bytesOf (now (self .entry))) (placeOf (now (self .entry))) width)) None ⌝ }
         ensures place { λ _. ⌜ placeOf (now (self .exit)) ≡ cond (available (now (self .entry)) width) (placeOf (now (self .entry)) + width) (placeOf (now (self .entry))) ⌝ }
         ensures bytes { λ _. ⌜ bytesOf (now (self .exit)) ≡ bytesOf (now (self .entry)) ⌝ }
+        ensures bound { λ r. ⌜ Cases r (Unit {0}) (λ v. v < 2 ^ width) ⌝ }
     {
         let end = self.place + u128::from(width);
         if width > WIDEST || end > 8 * (self.bytes.len() as u128) {

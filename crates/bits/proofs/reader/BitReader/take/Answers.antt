@@ -3,7 +3,7 @@ use mathlib.Core.Path.{_≡_, sym, _∙_, ap}
 use Prim.Native.Nat.{ℕ, _+_, _≤_}
 use borrow.Author.Needs.{needs}
 use Rattle.bits.specs.Bits.{bit, spelled}
-use Rattle.bits.proofs.Fields.{spelled-none, spelled-shift}
+use Rattle.bits.proofs.Fields.{spelled-none, spelled-shift, spelled-below-power}
 use Rattle.bits.proofs.reader.BitReader.take.Needs as need
 
 pub loop-i-holds : need.loop-i-holds
@@ -17,4 +17,5 @@ loop-i-again c =
 pub returns : need.returns
 returns c =
     let all : c .loop-i .i ≡ c .args .width = omega arith in
+    let below = spelled-below-power (c .args .self .now .bytes .now) (c .args .self .now .place) (c .args .width) in
     search needs
