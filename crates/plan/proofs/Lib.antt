@@ -5,3 +5,4 @@ mod HeadBits
 mod FirstWrong
 mod RowLaws
 mod RowsLaws
+mod AdmissionLaws

@@ -7,6 +7,8 @@ ghost use Prim.Native.Nat.{ℕ, _≤_, _<_};
 ghost use Rattle.plan.specs.Periods.{IsLcm};
 ghost use Rattle.plan.specs.Tasks.{allOf, lawful, offsets, periods, greatest};
 
+pub mod admission;
+
 use crate::tasks::Task;
 
 /// The most tasks that a plan has.

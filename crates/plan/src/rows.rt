@@ -63,7 +63,7 @@ fn read_row(bytes: &[u8]) -> Option<(Task, u64)>
 }
 
 /// A bit of a row, counted from the plan's first bit.
-fn row_bit(row: u8, first: u8) -> u64
+pub(crate) fn row_bit(row: u8, first: u8) -> u64
     ensures { λ r. ⌜ r ≡ rowBit row first ⌝ }
 {
     16 + 232 * u64::from(row) + u64::from(first)
