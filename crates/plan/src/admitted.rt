@@ -8,6 +8,7 @@ ghost use Rattle.plan.specs.Periods.{IsLcm};
 ghost use Rattle.plan.specs.Tasks.{allOf, lawful, offsets, periods, greatest};
 
 pub mod admission;
+mod methods;
 
 use crate::tasks::Task;
 

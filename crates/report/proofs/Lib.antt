@@ -1,0 +1,5 @@
+mod Puts
+mod Digits
+mod Words
+mod Rooms
+mod Tasks

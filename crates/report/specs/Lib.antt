@@ -1,0 +1,4 @@
+pub mod Buffers
+pub mod Words
+pub mod Reports
+pub mod Inputs
