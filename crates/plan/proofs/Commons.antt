@@ -40,10 +40,11 @@ pub lcm-none : IsLcm 1 []
 lcm-none = (omega arith, refl, λ m e. dvd-of-mod-eq-zero 1 (omega arith))
 
 pub lcm-push : (h t n : ℕ) (ts : List ℕ) → IsLcm h ts → Joins n h t → IsLcm n (ts ++ (t ∷ []))
-lcm-push h t n ts l j =
-    (j .positive,
-     common-push n t ts (common-over h n ts (l .1) (j .left)) (j .right),
-     λ m e. let s = common-pushed m t ts e in j .least m (l .2 m (s .0)) (s .1))
+lcm-push h t n ts l j = (
+  j .positive,
+  common-push n t ts (common-over h n ts (l .1) (j .left)) (j .right),
+  λ m e. let s = common-pushed m t ts e in j .least m (l .2 m (s .0)) (s .1),
+)
 
 -- a common multiple up to the limit is found
 pub common-found : (k n : ℕ) (ts : List ℕ) → 0 < n → n ≤ k → common n ts ≡ true → commonUpTo k ts ≡ true
@@ -51,9 +52,9 @@ unfolding commonUpTo
 common-found zero n ts p q e = absurd (omega arith)
 common-found (suc k) n ts p q e =
     ⊎-elim
-      (λ same. or-left (common (suc k) ts) (commonUpTo k ts) (subst (λ (z : ℕ). common z ts ≡ true) same e))
-      (λ below. or-right (common (suc k) ts) (commonUpTo k ts) (common-found k n ts p (omega arith) e))
-      (eq-or-lt-of-le q)
+    (λ same. or-left (common (suc k) ts) (commonUpTo k ts) (subst (λ (z : ℕ). common z ts ≡ true) same e))
+    (λ below. or-right (common (suc k) ts) (commonUpTo k ts) (common-found k n ts p (omega arith) e))
+    (eq-or-lt-of-le q)
 
 -- there is none below the least
 pub common-missing : (k n : ℕ) (ts : List ℕ) → k < n → IsLcm n ts → commonUpTo k ts ≡ false
@@ -61,8 +62,8 @@ unfolding commonUpTo
 common-missing zero n ts p l = refl
 common-missing (suc k) n ts p l =
     or-from (common (suc k) ts) (commonUpTo k ts)
-      (⊎-elim
-        (λ found. let above : n ≤ suc k = le-of-dvd (omega arith) (l .2 (suc k) found) in absurd (omega arith))
-        (λ none. none)
-        (cases-bool (common (suc k) ts)))
-      (common-missing k n ts (omega arith) l)
+    (⊎-elim
+    (λ found. let above : n ≤ suc k = le-of-dvd (omega arith) (l .2 (suc k) found) in absurd (omega arith))
+    (λ none. none)
+    (cases-bool (common (suc k) ts)))
+    (common-missing k n ts (omega arith) l)

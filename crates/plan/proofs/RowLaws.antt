@@ -35,9 +35,9 @@ periods-more b i =
 pub spelled-fits : (r : List ℕ) → fitsRow (taskOf r) ≡ true
 spelled-fits r =
     let below : (first width : ℕ) → ltb (spelled r first width) (2 ^ width) ≡ true =
-        λ first width. lt-ltb _ _ (spelled-below-power r first width) in
+    λ first width. lt-ltb _ _ (spelled-below-power r first width) in
     and-from _ _ (and-from _ _ (and-from _ _ (and-from _ _ (and-from _ _ (and-from _ _ (and-from _ _
-        (below 0 20) (below 20 20)) (below 40 20)) (below 60 20)) (below 80 8)) (below 88 12)) (below 100 64)) (below 164 64)
+    (below 0 20) (below 20 20)) (below 40 20)) (below 60 20)) (below 80 8)) (below 88 12)) (below 100 64)) (below 164 64)
 
 -- no rule is broken
 pub rules-kept : {F : Type 0} (at : Cause → ℕ → F) (t : Task) → firstWrong (ruleChecks at t) ≡ None → (zeroPeriod t ≡ false) × (timesOutOfOrder t ≡ false) × (usefulNotEvicting t ≡ false)
@@ -83,7 +83,7 @@ module _ (b : List ℕ) (i : ℕ) (t : Task)
     row-repeating : IsLcm n (periods (rowsOf b (i + 1)))
     row-repeating =
         subst (IsLcm n) (ap (λ (z : Task). periods (rowsOf b i) ++ (z .period ∷ [])) row-spelled ∙ sym (periods-more b i))
-          (lcm-push h (t .period) n (periods (rowsOf b i)) before joins)
+        (lcm-push h (t .period) n (periods (rowsOf b i)) before joins)
 
     row-checked : firstWrong (rowChecks b i) ≡ cond (not (commonUpTo hyperperiodLimit (periods (rowsOf b (i + 1))))) (Some (fault Plan HyperperiodTooLong (Some i) None)) None
     row-checked =
@@ -99,7 +99,8 @@ module _ (b : List ℕ) (i : ℕ) (t : Task)
           spelled = row-spelled;
           keeping = row-lawful;
           repeating = row-repeating;
-          limited = small }
+          limited = small;
+        }
 
     pub row-too-long : hyperperiodLimit < n → firstWrong (rowChecks b i) ≡ Some (fault Plan HyperperiodTooLong (Some i) None)
     row-too-long large =

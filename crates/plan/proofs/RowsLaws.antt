@@ -66,26 +66,28 @@ all-push p (y ∷ xs) x e h =
 
 pub rows-none : (b : List ℕ) → RowsAdmitted b 0 [] 0 1
 rows-none b = record {
-      passed = refl;
-      whole = omega arith;
-      spelled = refl;
-      keeping = refl;
-      farthest = refl;
-      repeating = lcm-none;
-      limited = omega arith }
+  passed = refl;
+  whole = omega arith;
+  spelled = refl;
+  keeping = refl;
+  farthest = refl;
+  repeating = lcm-none;
+  limited = omega arith;
+}
 
 pub rows-more : (b : List ℕ) (i : ℕ) (ts us : List Task) (a c h n : ℕ) (t : Task) → RowsAdmitted b i ts a h → RowAdmitted b i t n → us ≡ ts ++ (t ∷ []) → c ≡ max a (t .offset) → RowsAdmitted b (i + 1) us c n
 rows-more b i ts us a c h n t r s e m =
     let spelled : us ≡ rowsOf b (i + 1) =
-        e ∙ (ap (λ (z : List Task). z ++ (t ∷ [])) (r .spelled) ∙ (ap (λ (z : Task). rowsOf b i ++ (z ∷ [])) (s .spelled) ∙ sym (map-counting-more (rowOf b) 0 i i (omega arith)))) in
+    e ∙ (ap (λ (z : List Task). z ++ (t ∷ [])) (r .spelled) ∙ (ap (λ (z : Task). rowsOf b i ++ (z ∷ [])) (s .spelled) ∙ sym (map-counting-more (rowOf b) 0 i i (omega arith)))) in
     record {
       passed = row-passes b i (r .passed) (s .passed);
       whole = s .whole;
       spelled = spelled;
       keeping = subst (λ (z : List Task). allOf lawful z ≡ true) (sym e) (all-push lawful ts t (r .keeping) (s .keeping));
       farthest =
-        m ∙ (ap (λ (z : ℕ). max z (t .offset)) (r .farthest)
-        ∙ (sym (greatest-push (offsets ts) (t .offset))
-        ∙ (ap greatest (sym (map-push (λ x. x .offset) ts t)) ∙ ap (λ (z : List Task). greatest (offsets z)) (sym e))));
+          m ∙ (ap (λ (z : ℕ). max z (t .offset)) (r .farthest)
+          ∙ (sym (greatest-push (offsets ts) (t .offset))
+          ∙ (ap greatest (sym (map-push (λ x. x .offset) ts t)) ∙ ap (λ (z : List Task). greatest (offsets z)) (sym e))));
       repeating = subst (λ (z : List Task). IsLcm n (periods z)) (sym spelled) (s .repeating);
-      limited = s .limited }
+      limited = s .limited;
+    }

@@ -35,14 +35,15 @@ rowBytes b i = drop (29 * i) b
 -- Each field by its first bit in the row and its width.
 abbrev pub taskOf : List ℕ → Task
 taskOf r = record {
-      offset = spelled r 0 20;
-      period = spelled r 20 20;
-      deadline = spelled r 40 20;
-      work = spelled r 60 20;
-      priority = spelled r 80 8;
-      «fixed_delay» = spelled r 88 12;
-      useful = record { lines = spelled r 100 64 };
-      evicting = record { lines = spelled r 164 64 } }
+  offset = spelled r 0 20;
+  period = spelled r 20 20;
+  deadline = spelled r 40 20;
+  work = spelled r 60 20;
+  priority = spelled r 80 8;
+  «fixed_delay» = spelled r 88 12;
+  useful = record { lines = spelled r 100 64 };
+  evicting = record { lines = spelled r 164 64 };
+}
 
 abbrev pub spareOf : List ℕ → ℕ
 spareOf r = spelled r 228 4

@@ -6,8 +6,9 @@ ghost use Rattle.plan.specs.Checks.{firstWrong};
 ghost use Rattle.plan.specs.Heads.{HeadOf};
 ghost use Rattle.std.specs.Results.{Cases};
 ghost use Rattle.std.specs.declared.option.Option.the-variants.{None, Some};
-
-use fault::{Cause, Fault, Layer};
+use fault::Cause;
+use fault::Fault;
+use fault::Layer;
 
 /// The one revision that is read.
 const REVISION: u8 = 1;
@@ -22,7 +23,12 @@ pub(crate) struct Head {
 fn head_fault(cause: Cause, bit: u64) -> Fault
     ensures { λ r. ⌜ r ≡ record { layer = Layer.Bytes; cause = cause; row = None; bit = Some bit } ⌝ }
 {
-    Fault { layer: Layer::Bytes, cause, row: None, bit: Some(bit) }
+    Fault {
+        layer: Layer::Bytes,
+        cause,
+        row: None,
+        bit: Some(bit),
+    }
 }
 
 /// The head of a plan and the bytes after it.
@@ -40,5 +46,11 @@ pub(crate) fn read_head(bytes: &[u8]) -> Result<(Head, &[u8]), Fault>
     if second & 3 != 0 {
         return Err(head_fault(Cause::SpareBitsSet, 14));
     }
-    Ok((Head { count: (first & 15) + 1, block_reload_time: second >> 2 }, rest))
+    Ok((
+        Head {
+            count: (first & 15) + 1,
+            block_reload_time: second >> 2,
+        },
+        rest,
+    ))
 }

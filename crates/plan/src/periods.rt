@@ -29,5 +29,9 @@ pub(crate) fn joined_period(hyperperiod: u64, period: u32) -> Option<u64>
 {
     let period = u64::from(period);
     let joined = hyperperiod / gcd(hyperperiod, period) * period;
-    if joined > HYPERPERIOD_LIMIT { None } else { Some(joined) }
+    if joined > HYPERPERIOD_LIMIT {
+        None
+    } else {
+        Some(joined)
+    }
 }

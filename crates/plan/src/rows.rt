@@ -14,13 +14,14 @@ ghost use Rattle.plan.specs.Rows.{RowAdmitted, RowsAdmitted};
 ghost use Rattle.plan.specs.Tasks.{periods};
 ghost use Rattle.std.specs.Results.{Cases};
 ghost use Rattle.std.specs.declared.option.Option.the-variants.{None, Some};
-
-use crate::blocks::CacheBlocks;
 use crate::admitted::MOST_TASKS;
+use crate::blocks::CacheBlocks;
 use crate::periods::joined_period;
 use crate::tasks::Task;
 use bits::reader::BitReader;
-use fault::{Cause, Fault, Layer};
+use fault::Cause;
+use fault::Fault;
+use fault::Layer;
 
 /// The bytes of a row.
 pub(crate) const ROW_BYTES: usize = 29;
@@ -56,10 +57,26 @@ fn read_row(bytes: &[u8]) -> Option<(Task, u64)>
     let work = reader.take(20)? as u32;
     let priority = reader.take(8)? as u8;
     let fixed_delay = reader.take(12)? as u16;
-    let useful = CacheBlocks { lines: reader.take(64)? };
-    let evicting = CacheBlocks { lines: reader.take(64)? };
+    let useful = CacheBlocks {
+        lines: reader.take(64)?,
+    };
+    let evicting = CacheBlocks {
+        lines: reader.take(64)?,
+    };
     let spare = reader.take(4)?;
-    Some((Task { offset, period, deadline, work, priority, fixed_delay, useful, evicting }, spare))
+    Some((
+        Task {
+            offset,
+            period,
+            deadline,
+            work,
+            priority,
+            fixed_delay,
+            useful,
+            evicting,
+        },
+        spare,
+    ))
 }
 
 /// A bit of a row, counted from the plan's first bit.
@@ -76,11 +93,21 @@ fn row_task(body: &[u8], row: u8) -> Result<Task, Fault>
 {
     let Some((task, spare)) = read_row(&body[ROW_BYTES * row as usize..]) else {
         let bit = 16 + 8 * body.len() as u64;
-        return Err(Fault { layer: Layer::Bytes, cause: Cause::EndsEarly, row: Some(row), bit: Some(bit) });
+        return Err(Fault {
+            layer: Layer::Bytes,
+            cause: Cause::EndsEarly,
+            row: Some(row),
+            bit: Some(bit),
+        });
     };
     if spare != 0 {
         let bit = row_bit(row, 228);
-        return Err(Fault { layer: Layer::Bytes, cause: Cause::SpareBitsSet, row: Some(row), bit: Some(bit) });
+        return Err(Fault {
+            layer: Layer::Bytes,
+            cause: Cause::SpareBitsSet,
+            row: Some(row),
+            bit: Some(bit),
+        });
     }
     Ok(task)
 }
@@ -94,7 +121,12 @@ fn keep_rules(task: Task, row: u8) -> Result<(), Fault>
     match task.flaw() {
         Some(flaw) => {
             let bit = row_bit(row, flaw.first);
-            Err(Fault { layer: Layer::Plan, cause: flaw.cause, row: Some(row), bit: Some(bit) })
+            Err(Fault {
+                layer: Layer::Plan,
+                cause: flaw.cause,
+                row: Some(row),
+                bit: Some(bit),
+            })
         }
         None => Ok(()),
     }
@@ -112,7 +144,12 @@ fn admit_row(body: &[u8], row: u8, hyperperiod: u64) -> Result<(Task, u64), Faul
     keep_rules(task, row)?;
     match joined_period(hyperperiod, task.period) {
         Some(joined) => Ok((task, joined)),
-        None => Err(Fault { layer: Layer::Plan, cause: Cause::HyperperiodTooLong, row: Some(row), bit: None }),
+        None => Err(Fault {
+            layer: Layer::Plan,
+            cause: Cause::HyperperiodTooLong,
+            row: Some(row),
+            bit: None,
+        }),
     }
 }
 
@@ -132,5 +169,9 @@ pub(crate) fn read_rows(body: &[u8], count: u8) -> Result<Rows, Fault>
         greatest_offset = greatest_offset.max(task.offset);
         hyperperiod = joined;
     }
-    Ok(Rows { tasks, greatest_offset, hyperperiod })
+    Ok(Rows {
+        tasks,
+        greatest_offset,
+        hyperperiod,
+    })
 }

@@ -3,8 +3,9 @@
 ghost use mathlib.Core.Path.{_≡_};
 ghost use Rattle.plan.specs.Checks.{firstWrong};
 ghost use Rattle.plan.specs.Flaws.{flawAt, ruleChecks};
-
-use crate::blocks::{CacheBlocks, CacheBlocksDebug, CacheBlocksPartialEq};
+use crate::blocks::CacheBlocks;
+use crate::blocks::CacheBlocksDebug;
+use crate::blocks::CacheBlocksPartialEq;
 use fault::Cause;
 
 /// A periodic task, as its row in the plan has it. Times are in ticks.
@@ -33,13 +34,22 @@ impl Task {
         ensures { λ r. ⌜ r ≡ firstWrong (ruleChecks flawAt self) ⌝ }
     {
         if self.period == 0 {
-            return Some(Flaw { cause: Cause::ZeroPeriod, first: 20 });
+            return Some(Flaw {
+                cause: Cause::ZeroPeriod,
+                first: 20,
+            });
         }
         if self.work < 1 || self.work > self.deadline || self.deadline > self.period {
-            return Some(Flaw { cause: Cause::TimesOutOfOrder, first: 60 });
+            return Some(Flaw {
+                cause: Cause::TimesOutOfOrder,
+                first: 60,
+            });
         }
         if !self.useful.is_within(self.evicting) {
-            return Some(Flaw { cause: Cause::UsefulNotEvicting, first: 100 });
+            return Some(Flaw {
+                cause: Cause::UsefulNotEvicting,
+                first: 100,
+            });
         }
         None
     }

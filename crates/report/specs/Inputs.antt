@@ -3,6 +3,7 @@
 --     untouched             the summary of a task to which nothing has happened
 --     openingText content   the report of a run to which nothing has happened
 --     reportText input      the report of an input
+--     longestReport         no report has more bytes
 use mathlib.Core.List.{List}
 use Prim.Native.Nat.{ℕ}
 use lib.ListN.{length, drop, replicate}
@@ -25,6 +26,10 @@ untouched = record { finished = 0; worst = 0; delay = 0 }
 -- OPEN at instant 0, and no job of any task finished or delayed.
 abbrev pub openingText : Content → List ℕ
 openingText content = openedText (Open 0) (replicate (length (content .tasks)) untouched)
+
+-- A line for each of 16 tasks and one before them, each of four words of at most 20 bytes with a blank or a newline.
+abbrev pub longestReport : ℕ
+longestReport = 1428
 
 abbrev pub answerText : Result Content Fault → List ℕ
 answerText (Ok content) = openingText content

@@ -13,4 +13,5 @@ pub use refusal::write_refusal;
 pub use standing::Standing;
 pub use standing::write_standing;
 pub use summary::Summary;
+pub use whole::LONGEST_REPORT;
 pub use whole::report_on;

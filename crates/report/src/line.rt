@@ -1,6 +1,6 @@
 //! Lines of words: put into a buffer that has room for them, and measured against the room first.
 
-ghost use Prim.Native.Nat.{_+_, _≤_};
+ghost use Prim.Native.Nat.{_+_, _*_, _≤_};
 ghost use lib.ListN.{length};
 ghost use Rattle.report.specs.Buffers.{Put, Leaves};
 ghost use Rattle.report.specs.Words.{blanked, line};
@@ -32,7 +32,7 @@ pub(crate) fn put_line(out: &mut [u8], at: usize, first: Word, words: &[Word]) -
 
 // What is left of the room after the words, or `None` where it is too small for them.
 fn room_after_words(room: usize, words: &[Word]) -> Option<usize>
-    ensures { λ r. ⌜ Leaves room (blanked (now (words .entry))) r ⌝ }
+    ensures { λ r. ⌜ Leaves room (21 * length (now (words .entry))) (blanked (now (words .entry))) r ⌝ }
 {
     let mut left = room;
     for word in words {
@@ -42,7 +42,7 @@ fn room_after_words(room: usize, words: &[Word]) -> Option<usize>
 }
 
 pub(crate) fn room_after_line(room: usize, first: Word, words: &[Word]) -> Option<usize>
-    ensures { λ r. ⌜ Leaves room (line first (now (words .entry))) r ⌝ }
+    ensures { λ r. ⌜ Leaves room (21 * length (now (words .entry)) + 21) (line first (now (words .entry))) r ⌝ }
 {
     let left = room.checked_sub(word_width(first) + 1)?;
     room_after_words(left, words)

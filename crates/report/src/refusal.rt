@@ -12,7 +12,7 @@ use fault::Layer;
 
 /// Writes the report of a refusal, and answers its length. A buffer that is too short for it is left as it was.
 pub fn write_refusal(out: &mut [u8], fault: Fault) -> Result<usize, Fault>
-    ensures { λ r. ⌜ Written (refusedLine fault) (now (out .entry)) (now (out .exit)) r ⌝ }
+    ensures { λ r. ⌜ Written 105 (refusedLine fault) (now (out .entry)) (now (out .exit)) r ⌝ }
 {
     let words = refusal_words(fault);
     match room_after_line(out.len(), Word::Refused, &words) {

@@ -1,6 +1,6 @@
 //! The report of a run: how it stands, and its tasks.
 
-ghost use Prim.Native.Nat.{_+_, _≤_};
+ghost use Prim.Native.Nat.{_+_, _*_, _≤_};
 ghost use lib.ListN.{length};
 ghost use Rattle.report.specs.Buffers.{Put, Leaves, Written};
 ghost use Rattle.report.specs.Reports.{standingLine, openedText};
@@ -26,7 +26,7 @@ pub fn write_standing(
     standing: Standing,
     summaries: &[Summary],
 ) -> Result<usize, Fault>
-    ensures { λ r. ⌜ Written (openedText standing (now (summaries .entry))) (now (out .entry)) (now (out .exit)) r ⌝ }
+    ensures { λ r. ⌜ Written (84 * length (now (summaries .entry)) + 84) (openedText standing (now (summaries .entry))) (now (out .entry)) (now (out .exit)) r ⌝ }
 {
     match room_after_report(out.len(), standing, summaries) {
         Some(_) => Ok(put_report(out, standing, summaries)),
@@ -43,7 +43,7 @@ fn put_report(out: &mut [u8], standing: Standing, summaries: &[Summary]) -> usiz
 }
 
 fn room_after_report(room: usize, standing: Standing, summaries: &[Summary]) -> Option<usize>
-    ensures { λ r. ⌜ Leaves room (openedText standing (now (summaries .entry))) r ⌝ }
+    ensures { λ r. ⌜ Leaves room (84 * length (now (summaries .entry)) + 84) (openedText standing (now (summaries .entry))) r ⌝ }
 {
     let left = room_after_standing(room, standing)?;
     room_after_tasks(left, summaries)
@@ -59,7 +59,7 @@ fn put_standing(out: &mut [u8], at: usize, standing: Standing) -> usize
 }
 
 fn room_after_standing(room: usize, standing: Standing) -> Option<usize>
-    ensures { λ r. ⌜ Leaves room (standingLine standing) r ⌝ }
+    ensures { λ r. ⌜ Leaves room 84 (standingLine standing) r ⌝ }
 {
     match standing {
         Standing::Open { instant } => room_after_line(room, Word::Open, &[Word::Number(instant)]),

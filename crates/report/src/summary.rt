@@ -1,7 +1,7 @@
 //! The lines of the tasks in a report.
 
 ghost use mathlib.Core.Path.{_≡_};
-ghost use Prim.Native.Nat.{_+_, _≤_};
+ghost use Prim.Native.Nat.{_+_, _*_, _≤_};
 ghost use lib.ListN.{length};
 ghost use Rattle.report.specs.Buffers.{Put, Leaves};
 ghost use Rattle.report.specs.Reports.{taskWords, taskLine, taskLines};
@@ -42,7 +42,7 @@ fn put_task(out: &mut [u8], at: usize, task: u64, summary: Summary) -> usize
 }
 
 fn room_after_task(room: usize, task: u64, summary: Summary) -> Option<usize>
-    ensures { λ r. ⌜ Leaves room (taskLine task summary) r ⌝ }
+    ensures { λ r. ⌜ Leaves room 84 (taskLine task summary) r ⌝ }
 {
     room_after_line(room, Word::Number(task), &task_words(summary))
 }
@@ -59,7 +59,7 @@ pub(crate) fn put_tasks(out: &mut [u8], at: usize, summaries: &[Summary]) -> usi
 }
 
 pub(crate) fn room_after_tasks(room: usize, summaries: &[Summary]) -> Option<usize>
-    ensures { λ r. ⌜ Leaves room (taskLines 0 (now (summaries .entry))) r ⌝ }
+    ensures { λ r. ⌜ Leaves room (84 * length (now (summaries .entry))) (taskLines 0 (now (summaries .entry))) r ⌝ }
 {
     let mut left = room;
     for (task, summary) in summaries.iter().enumerate() {

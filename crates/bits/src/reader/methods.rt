@@ -7,7 +7,6 @@ ghost use Rattle.bits.specs.Bits.{bit, spelled};
 ghost use Rattle.bits.specs.Readers.{bytesOf, placeOf, available};
 ghost use Rattle.std.specs.Options.{Cases};
 ghost use Rattle.std.specs.declared.option.Option.the-variants.{None, Some};
-
 use super::BitReader;
 
 /// The widest field.

@@ -6,7 +6,6 @@ ghost use Rattle.plan.specs.Admission.{hyperperiodLimit};
 ghost use Rattle.plan.specs.Periods.{IsLcm};
 ghost use Rattle.plan.specs.Plans.{contentOf, tasksIn};
 ghost use Rattle.plan.specs.Tasks.{greatest, offsets, periods};
-
 use super::Plan;
 use crate::tasks::Task;
 

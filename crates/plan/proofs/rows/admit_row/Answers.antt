@@ -12,10 +12,10 @@ pub returns-in-Some : need.returns-in-Some
 returns-in-Some c =
     let joined = c .in-Some .ensures tt in
     row-admitted (c .args .body .now) (c .args .row) (c .in-Continue-task .task) (c .in-Continue-task .ensures tt) (c .in-Continue-keep-rules .ensures tt)
-      (c .args .hyperperiod) (c .in-Some .joined) (c .pre .before .0) (joined .0) (c .pre .room .1) (joined .1)
+    (c .args .hyperperiod) (c .in-Some .joined) (c .pre .before .0) (joined .0) (c .pre .room .1) (joined .1)
 
 pub returns-in-None : need.returns-in-None
 returns-in-None c =
     let joined = c .in-None .ensures tt in
     row-too-long (c .args .body .now) (c .args .row) (c .in-Continue-task .task) (c .in-Continue-task .ensures tt) (c .in-Continue-keep-rules .ensures tt)
-      (c .args .hyperperiod) (joined .0) (c .pre .before .0) (joined .1) (joined .2)
+    (c .args .hyperperiod) (joined .0) (c .pre .before .0) (joined .1) (joined .2)

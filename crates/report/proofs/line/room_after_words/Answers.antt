@@ -8,12 +8,17 @@ use Rattle.report.proofs.line.room_after_words.Needs as need
 
 pub returns-in-Break-left : need.returns-in-Break-left
 returns-in-Break-left c =
-    leaves-none _ _ _ (c .from-residual .ensures)
+    leaves-none _ _ _ _ (c .from-residual .ensures)
     (omega (arith, c .in-Break-left .ensures tt, next-word-length (c .args .words .now) (c .loop-word .word-index) Open (omega arith)))
+    (omega (arith, c .in-Break-left .ensures tt))
 
 pub loop-word-again : need.loop-word-again
-loop-word-again c =
-    omega (arith, c .in-Continue-left .ensures tt, next-word-length (c .args .words .now) (c .loop-word .word-index) Open (omega arith))
+loop-word-again c = (
+  omega (arith, c .in-Continue-left .ensures tt, next-word-length (c .args .words .now) (c .loop-word .word-index) Open (omega arith)),
+  omega (arith, c .in-Continue-left .ensures tt),
+)
 
 pub returns : need.returns
-returns c = omega (arith, ap length (no-word (c .args .words .now) (c .loop-word .word-index) (omega arith)))
+returns c =
+    let end = ap length (no-word (c .args .words .now) (c .loop-word .word-index) (omega arith)) in
+    (omega arith, omega arith)

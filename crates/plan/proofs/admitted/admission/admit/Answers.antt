@@ -22,7 +22,7 @@ pub returns-then-body-head : need.returns-then-body-head
 returns-then-body-head c =
     let head = c .in-Continue-head .ensures tt in
     extra-refuses (c .args .bytes .now) (head .0) (c .in-Continue-head .head .count) (c .in-Continue-head .body .now) (head .1 .count) (head .1 .after)
-      (c .in-Continue-rows .ensures tt .1 .passed) _ (c .if-body-head .taken) (c .row-bit-bit .ensures)
+    (c .in-Continue-rows .ensures tt .1 .passed) _ (c .if-body-head .taken) (c .row-bit-bit .ensures)
 
 pub ghost-result : need.ghost-result
 ghost-result c =
@@ -38,4 +38,4 @@ returns c =
     let head = c .in-Continue-head .ensures tt in
     let rows = c .in-Continue-rows .ensures tt .1 in
     all-passed (c .args .bytes .now) (head .0) (c .in-Continue-head .head .count) (c .in-Continue-head .body .now) (head .1 .count) (head .1 .after)
-      (rows .passed) _ _ (c .if-body-head .left) (head .1 .reload) (rows .spelled)
+    (rows .passed) _ _ (c .if-body-head .left) (head .1 .reload) (rows .spelled)
