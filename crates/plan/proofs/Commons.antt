@@ -1,13 +1,13 @@
 -- Common multiples of a list: one period more, and whether there is one up to a limit.
-use mathlib.Core.Bool.{Bool, true, false}
+use mathlib.Core.Bool.{Bool, true, false, _&&_}
 use mathlib.Core.List.{List, [], _∷_, _++_}
 use mathlib.Core.Logic.{⊎-elim}
-use mathlib.Core.Path.{_≡_, refl, subst}
+use mathlib.Core.Path.{_≡_, refl, sym, subst}
 use Prim.Native.Nat.{ℕ, zero, suc, _%_, _<_, _≤_, _∣_}
-use native.Mathlib.Nat.{dvd-trans, eq-or-lt-of-le, le-of-dvd, mod-eq-zero-of-dvd, dvd-of-mod-eq-zero}
+use native.Mathlib.Nat.{dvd-trans, eq-or-lt-of-le, le-of-dvd, mod-zero, mod-eq-zero-of-dvd, dvd-of-mod-eq-zero}
 use native.Mathlib.Omega.{arith}
 use lib.Dec.{eqb}
-use Rattle.std.proofs.shelf.Tests.{eq-eqb, eqb-true, and-parts, and-from, or-left, or-right, or-from, cases-bool}
+use Rattle.std.proofs.shelf.Tests.{eq-eqb, eqb-true, and-parts, and-from, or-left, or-right, or-from, and-left, and-right, ne-eqb, cases-bool}
 use Rattle.plan.specs.Periods.{common, commonUpTo, IsLcm, Joins}
 
 divides : (t m : ℕ) → eqb (m % t) 0 ≡ true → t ∣ m
@@ -67,3 +67,46 @@ common-missing (suc k) n ts p l =
     (λ none. none)
     (cases-bool (common (suc k) ts)))
     (common-missing k n ts (omega arith) l)
+
+-- no positive number is a multiple of 0
+pub zero-joins-none : (k h : ℕ) → commonUpTo k (h ∷ 0 ∷ []) ≡ false
+unfolding commonUpTo
+zero-joins-none zero h = refl
+zero-joins-none (suc k) h =
+    let some : suc k % 0 ≡ 0 → ⊥ = λ e. omega (arith, mod-zero (suc k)) in
+    or-from (common (suc k) (h ∷ 0 ∷ [])) (commonUpTo k (h ∷ 0 ∷ []))
+    (and-right (eqb (suc k % h) 0) _ (and-left (eqb (suc k % 0) 0) true (ne-eqb (suc k % 0) 0 some)))
+    (zero-joins-none k h)
+
+pub lcm-pair : (n h t : ℕ) → Joins n h t → IsLcm n (h ∷ t ∷ [])
+lcm-pair n h t j = (
+  j .positive,
+  and-from _ _ (divided h n (j .left)) (and-from _ _ (divided t n (j .right)) refl),
+  λ m e.
+      let s = and-parts (eqb (m % h) 0) (eqb (m % t) 0 && true) e in
+      j .least m (divides h m (s .0)) (divides t m (and-parts (eqb (m % t) 0) true (s .1) .0)),
+)
+
+same-answer : (a b : Bool) → (a ≡ true → b ≡ true) → (b ≡ true → a ≡ true) → a ≡ b
+same-answer true b f g = sym (f refl)
+same-answer false true f g = g refl
+same-answer false false f g = refl
+
+-- the common multiples of some periods and one more are those of their least common multiple and it
+common-as-joined : (h t m : ℕ) (ts : List ℕ) → IsLcm h ts → common m (h ∷ t ∷ []) ≡ common m (ts ++ (t ∷ []))
+common-as-joined h t m ts l =
+    same-answer (common m (h ∷ t ∷ [])) (common m (ts ++ (t ∷ [])))
+    (λ e.
+    let s = and-parts (eqb (m % h) 0) (eqb (m % t) 0 && true) e in
+    common-push m t ts (common-over h m ts (l .1) (divides h m (s .0))) (divides t m (and-parts (eqb (m % t) 0) true (s .1) .0)))
+    (λ e.
+    let s = common-pushed m t ts e in
+    and-from _ _ (divided h m (l .2 m (s .0))) (and-from _ _ (divided t m (s .1)) refl))
+
+pub common-joined : (k h t : ℕ) (ts : List ℕ) → IsLcm h ts → commonUpTo k (h ∷ t ∷ []) ≡ commonUpTo k (ts ++ (t ∷ []))
+unfolding commonUpTo
+common-joined zero h t ts l = refl
+common-joined (suc k) h t ts l =
+    let here = common-as-joined h t (suc k) ts l in
+    let below = common-joined k h t ts l in
+    cc

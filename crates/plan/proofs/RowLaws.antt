@@ -20,11 +20,11 @@ use Rattle.fault.specs.declared.Layer.the-variants.{Plan}
 use Rattle.plan.specs.declared.tasks.Task.{Task}
 use Rattle.plan.specs.Checks.{firstWrong}
 use Rattle.plan.specs.Flaws.{ruleChecks}
-use Rattle.plan.specs.Admission.{byteChecks, periodChecks, rowChecks, inRow, fault, unless, hyperperiodLimit}
+use Rattle.plan.specs.Admission.{byteChecks, periodChecks, rowChecks, inRow, fault, unless}
 use Rattle.plan.specs.Layout.{taskOf, spareOf, rowBytes, rowOf, rowsOf}
-use Rattle.plan.specs.Periods.{commonUpTo, IsLcm, Joins}
+use Rattle.plan.specs.Periods.{commonUpTo, hyperperiodLimit, IsLcm, Joins}
 use Rattle.plan.specs.Rows.{RowAdmitted}
-use Rattle.plan.proofs.Commons.{lcm-push, common-found, common-missing}
+use Rattle.plan.proofs.Commons.{lcm-push, common-found, common-joined}
 use Rattle.plan.proofs.FirstWrong.{none-left, passed-before, unless-ok}
 use Rattle.plan.specs.Tasks.{fitsRow, lawful, zeroPeriod, timesOutOfOrder, usefulNotEvicting, periods}
 
@@ -71,38 +71,31 @@ module _ (b : List ℕ) (i : ℕ) (t : Task)
   row-lawful : lawful t ≡ true
   row-lawful = subst (λ (z : Task). lawful z ≡ true) (sym row-spelled) (lawful-row (rowBytes b i) (rules-kept (inRow i) (rowOf b i) row-rules))
 
-  pub row-period : (0 < t .period) × (t .period < 2 ^ 20)
-  row-period =
-      let some = eqb-false _ _ (rules-kept (inRow i) t kept .0) in
-      let below = spelled-below-power (rowBytes b i) 20 20 in
-      let here : t .period ≡ spelled (rowBytes b i) 20 20 = ap (λ (z : Task). z .period) row-spelled in
-      (omega arith, omega arith)
+  row-checked : firstWrong (rowChecks b i) ≡ firstWrong (periodChecks b i)
+  row-checked =
+      passed-before (byteChecks b i) (ruleChecks (inRow i) (rowOf b i) ++ periodChecks b i) row-bytes
+      ∙ passed-before (ruleChecks (inRow i) (rowOf b i)) (periodChecks b i) row-rules
 
-  -- the common period of the rows up to this one
-  module _ (h n : ℕ) (before : IsLcm h (periods (rowsOf b i))) (joins : Joins n h (t .period)) where
-    row-repeating : IsLcm n (periods (rowsOf b (i + 1)))
-    row-repeating =
-        subst (IsLcm n) (ap (λ (z : Task). periods (rowsOf b i) ++ (z .period ∷ [])) row-spelled ∙ sym (periods-more b i))
-        (lcm-push h (t .period) n (periods (rowsOf b i)) before joins)
+  -- the periods up to this row are those before it and its own
+  row-periods : periods (rowsOf b i) ++ (t .period ∷ []) ≡ periods (rowsOf b (i + 1))
+  row-periods = ap (λ (z : Task). periods (rowsOf b i) ++ (z .period ∷ [])) row-spelled ∙ sym (periods-more b i)
 
-    row-checked : firstWrong (rowChecks b i) ≡ cond (not (commonUpTo hyperperiodLimit (periods (rowsOf b (i + 1))))) (Some (fault Plan HyperperiodTooLong (Some i) None)) None
-    row-checked =
-        passed-before (byteChecks b i) (ruleChecks (inRow i) (rowOf b i) ++ periodChecks b i) row-bytes
-        ∙ passed-before (ruleChecks (inRow i) (rowOf b i)) (periodChecks b i) row-rules
-
-    pub row-admitted : 29 * i ≤ length b → n ≤ hyperperiodLimit → RowAdmitted b i t n
-    row-admitted long small =
-        let found = common-found hyperperiodLimit n (periods (rowsOf b (i + 1))) (joins .positive) small (row-repeating .1) in
+  module _ (h : ℕ) (before : IsLcm h (periods (rowsOf b i))) where
+    pub row-admitted : (n : ℕ) → Joins n h (t .period) → 29 * i ≤ length b → n ≤ hyperperiodLimit → RowAdmitted b i t n
+    row-admitted n joins long small =
+        let repeating = subst (IsLcm n) row-periods (lcm-push h (t .period) n (periods (rowsOf b i)) before joins) in
+        let found = common-found hyperperiodLimit n (periods (rowsOf b (i + 1))) (joins .positive) small (repeating .1) in
         record {
           passed = row-checked ∙ cond-false _ _ _ (not-from-true _ found);
           whole = row-whole long;
           spelled = row-spelled;
           keeping = row-lawful;
-          repeating = row-repeating;
+          repeating = repeating;
           limited = small;
         }
 
-    pub row-too-long : hyperperiodLimit < n → firstWrong (rowChecks b i) ≡ Some (fault Plan HyperperiodTooLong (Some i) None)
-    row-too-long large =
-        let missing = common-missing hyperperiodLimit n (periods (rowsOf b (i + 1))) large row-repeating in
+    pub row-too-long : commonUpTo hyperperiodLimit (h ∷ t .period ∷ []) ≡ false → firstWrong (rowChecks b i) ≡ Some (fault Plan HyperperiodTooLong (Some i) None)
+    row-too-long none =
+        let missing : commonUpTo hyperperiodLimit (periods (rowsOf b (i + 1))) ≡ false =
+        ap (commonUpTo hyperperiodLimit) (sym row-periods) ∙ (sym (common-joined hyperperiodLimit h (t .period) (periods (rowsOf b i)) before) ∙ none) in
         row-checked ∙ cond-true _ _ _ (not-from-false _ missing)

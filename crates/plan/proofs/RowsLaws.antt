@@ -64,14 +64,14 @@ all-push p (y ∷ xs) x e h =
     let s = and-parts (p y) (allOf p xs) e in
     and-from _ _ (s .0) (all-push p xs x (s .1) h)
 
-pub rows-none : (b : List ℕ) → RowsAdmitted b 0 [] 0 1
-rows-none b = record {
+pub rows-none : (b : List ℕ) (h : ℕ) → h ≡ 1 → RowsAdmitted b 0 [] 0 h
+rows-none b h e = record {
   passed = refl;
   whole = omega arith;
   spelled = refl;
   keeping = refl;
   farthest = refl;
-  repeating = lcm-none;
+  repeating = subst (λ (z : ℕ). IsLcm z []) (sym e) lcm-none;
   limited = omega arith;
 }
 

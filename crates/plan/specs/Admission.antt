@@ -1,12 +1,11 @@
 -- Which byte strings are plans, and what is wrong with the others. Assumes nothing.
 --     Content               what a plan says: the block reload time and the tasks
---     hyperperiodLimit      the longest common period of an admitted plan
 --     headChecks bs         the checks of the head, in their order
 --     byteChecks b i, periodChecks b i      the checks of the bytes of row i of the body b, and of the common period at it
 --     inRow i               how a broken rule of row i is answered
 --     rowChecks b i         the checks of row i of the body b, in their order
 --     rowsChecks b n        the checks of the first n rows
---     extraChecks bs        the check that nothing follows the last row
+--     endChecks b n         the check that nothing follows the n rows of the body b
 --     checks bs             all checks of the bytes bs, in their order
 --     admission bs          the content that bs spells, or the fault of the first check that is wrong
 use mathlib.Core.Bool.{Bool, true, not}
@@ -29,15 +28,12 @@ use Rattle.plan.specs.declared.tasks.Task.{Task}
 use Rattle.plan.specs.Checks.{Check, check, firstWrong}
 use Rattle.plan.specs.Flaws.{ruleChecks}
 use Rattle.plan.specs.Layout.{revisionOf, countOf, reloadOf, headSpareOf, body, rowBytes, spareOf, rowOf, rowsOf, rowBit}
-use Rattle.plan.specs.Periods.{commonUpTo}
+use Rattle.plan.specs.Periods.{commonUpTo, hyperperiodLimit}
 use Rattle.plan.specs.Tasks.{periods}
 
 pub record Content : Type 0 where
   pub reload : ℕ
   pub tasks : List Task
-
-abbrev pub hyperperiodLimit : ℕ
-hyperperiodLimit = 1000000000
 
 abbrev pub fault : Layer → Cause → Option ℕ → Option ℕ → Fault
 fault layer cause row bit = record { layer = layer; cause = cause; row = row; bit = bit }
@@ -73,13 +69,12 @@ rowChecks b i = byteChecks b i ++ (ruleChecks (inRow i) (rowOf b i) ++ periodChe
 abbrev pub rowsChecks : List ℕ → ℕ → List (Check Fault)
 rowsChecks b n = joined (rowChecks b) (counting 0 n)
 
-abbrev pub extraChecks : List ℕ → List (Check Fault)
-extraChecks bs =
-    check (ltb (29 * countOf bs) (length (body bs))) (fault Bytes ExtraBytes None (Some (rowBit (countOf bs) 0)))
-    ∷ []
+-- Bytes after the last row begin where one row more would.
+abbrev pub endChecks : List ℕ → ℕ → List (Check Fault)
+endChecks b n = check (ltb (29 * n) (length b)) (fault Bytes ExtraBytes None (Some (rowBit n 0))) ∷ []
 
 abbrev pub checks : List ℕ → List (Check Fault)
-checks bs = headChecks bs ++ (rowsChecks (body bs) (countOf bs) ++ extraChecks bs)
+checks bs = headChecks bs ++ (rowsChecks (body bs) (countOf bs) ++ endChecks (body bs) (countOf bs))
 
 abbrev pub contentIn : List ℕ → Content
 contentIn bs = record { reload = reloadOf bs; tasks = rowsOf (body bs) (countOf bs) }

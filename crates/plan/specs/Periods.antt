@@ -1,6 +1,7 @@
 -- Common multiples of periods. Assumes nothing.
 --     common n ts           n is a multiple of every number of ts
 --     commonUpTo k ts       some number from 1 to k is a multiple of every number of ts
+--     hyperperiodLimit      the longest common period of an admitted plan
 --     IsLcm n ts            n is the least common multiple of ts
 --     IsGcd g a b           g is the greatest common divisor of a and b
 --     Joins n a b           n is the least common multiple of a and b
@@ -17,6 +18,9 @@ common n (t ∷ ts) = eqb (n % t) 0 && common n ts
 unfoldable pub commonUpTo : ℕ → List ℕ → Bool
 commonUpTo zero ts = false
 commonUpTo (suc n) ts = common (suc n) ts || commonUpTo n ts
+
+abbrev pub hyperperiodLimit : ℕ
+hyperperiodLimit = 1000000000
 
 -- Positive, a multiple of each number, and a divisor of every common multiple.
 abbrev pub IsLcm : ℕ → List ℕ → Type 0

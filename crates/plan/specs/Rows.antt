@@ -8,10 +8,10 @@ use Prim.Native.Nat.{ℕ, _+_, _*_, _≤_}
 use lib.ListN.{length}
 use Rattle.std.specs.declared.option.Option.the-variants.{None}
 use Rattle.plan.specs.declared.tasks.Task.{Task}
-use Rattle.plan.specs.Admission.{rowChecks, rowsChecks, hyperperiodLimit}
+use Rattle.plan.specs.Admission.{rowChecks, rowsChecks}
 use Rattle.plan.specs.Checks.{firstWrong}
 use Rattle.plan.specs.Layout.{rowOf, rowsOf}
-use Rattle.plan.specs.Periods.{IsLcm}
+use Rattle.plan.specs.Periods.{IsLcm, hyperperiodLimit}
 use Rattle.plan.specs.Tasks.{allOf, greatest, lawful, offsets, periods}
 
 pub record RowAdmitted (b : List ℕ) (i : ℕ) (t : Task) (h : ℕ) : Type 0 where

@@ -10,6 +10,7 @@ ghost use Rattle.plan.specs.Tasks.{allOf, lawful, offsets, periods, greatest};
 pub mod admission;
 mod methods;
 
+use crate::periods::Hyperperiod;
 use crate::tasks::Task;
 
 /// The most tasks that a plan has.
@@ -22,12 +23,11 @@ pub struct Plan {
     count: u8,
     tasks: [Task; MOST_TASKS],
     greatest_offset: u32,
-    hyperperiod: u64,
+    hyperperiod: Hyperperiod,
     ghost sized: { length tasks ≡ 16 },
     ghost counted: { (1 ≤ count) × (count ≤ 16) },
     ghost reloads: { «block_reload_time» < 64 },
     ghost keeping: { allOf lawful (take count tasks) ≡ true },
     ghost farthest: { «greatest_offset» ≡ greatest (offsets (take count tasks)) },
-    ghost repeating: { IsLcm hyperperiod (periods (take count tasks)) },
-    ghost limited: { hyperperiod ≤ 1000000000 },
+    ghost repeating: { IsLcm (hyperperiod .ticks) (periods (take count tasks)) },
 }

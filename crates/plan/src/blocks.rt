@@ -14,6 +14,12 @@ impl CacheBlocks {
     pub fn is_within(self, other: CacheBlocks) -> bool
         ensures { λ r. ⌜ r ≡ within (self .lines) (other .lines) ⌝ }
     {
-        self.lines & other.lines == self.lines
+        lies_within(self.lines, other.lines)
     }
+}
+
+fn lies_within(lines: u64, others: u64) -> bool
+    ensures { λ r. ⌜ r ≡ within lines others ⌝ }
+{
+    lines & others == lines
 }

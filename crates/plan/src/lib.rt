@@ -11,4 +11,6 @@ pub use admitted::MOST_TASKS;
 pub use admitted::Plan;
 pub use admitted::admission::admit;
 pub use blocks::CacheBlocks;
+pub use periods::Hyperperiod;
+pub use tasks::Flaw;
 pub use tasks::Task;

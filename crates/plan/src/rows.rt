@@ -8,7 +8,7 @@ ghost use Prim.Native.Nat.{_+_, _*_, _≤_, _<_};
 ghost use Rattle.plan.specs.Admission.{byteChecks, inRow, rowChecks, rowsChecks, unless};
 ghost use Rattle.plan.specs.Checks.{firstWrong};
 ghost use Rattle.plan.specs.Flaws.{ruleChecks};
-ghost use Rattle.plan.specs.Layout.{rowBit, rowOf, rowsOf, spareOf, taskOf};
+ghost use Rattle.plan.specs.Layout.{rowBit, rowBytes, rowOf, rowsOf, spareOf, taskOf};
 ghost use Rattle.plan.specs.Periods.{IsLcm};
 ghost use Rattle.plan.specs.Rows.{RowAdmitted, RowsAdmitted};
 ghost use Rattle.plan.specs.Tasks.{periods};
@@ -16,7 +16,7 @@ ghost use Rattle.std.specs.Results.{Cases};
 ghost use Rattle.std.specs.declared.option.Option.the-variants.{None, Some};
 use crate::admitted::MOST_TASKS;
 use crate::blocks::CacheBlocks;
-use crate::periods::joined_period;
+use crate::periods::Hyperperiod;
 use crate::tasks::Task;
 use bits::reader::BitReader;
 use fault::Cause;
@@ -43,7 +43,7 @@ const NO_TASK: Task = Task {
 pub(crate) struct Rows {
     pub(crate) tasks: [Task; MOST_TASKS],
     pub(crate) greatest_offset: u32,
-    pub(crate) hyperperiod: u64,
+    pub(crate) hyperperiod: Hyperperiod,
 }
 
 /// The task and the spare bits that the first 29 of these bytes spell, or nothing where there are fewer.
@@ -86,12 +86,21 @@ pub(crate) fn row_bit(row: u8, first: u8) -> u64
     16 + 232 * u64::from(row) + u64::from(first)
 }
 
+/// The bytes from a row on.
+fn from_row(body: &[u8], row: u8) -> &[u8]
+    requires { ⌜ 29 * row ≤ length (now body) ⌝ }
+    ensures value { λ r. ⌜ now r ≡ rowBytes (now (body .entry)) row ⌝ }
+    ensures len { λ r. ⌜ length (now r) + 29 * row ≡ length (now (body .entry)) ⌝ }
+{
+    &body[ROW_BYTES * row as usize..]
+}
+
 /// The task of a row, unless the row is cut or has spare bits set.
 fn row_task(body: &[u8], row: u8) -> Result<Task, Fault>
     requires { ⌜ row < 16 ⌝ ∗ ⌜ 29 * row ≤ length (now body) ⌝ }
     ensures { λ r. ⌜ r ≡ unless (firstWrong (byteChecks (now (body .entry)) row)) (rowOf (now (body .entry)) row) ⌝ }
 {
-    let Some((task, spare)) = read_row(&body[ROW_BYTES * row as usize..]) else {
+    let Some((task, spare)) = read_row(from_row(body, row)) else {
         let bit = 16 + 8 * body.len() as u64;
         return Err(Fault {
             layer: Layer::Bytes,
@@ -133,17 +142,17 @@ fn keep_rules(task: Task, row: u8) -> Result<(), Fault>
 }
 
 /// The task of a row, with the hyperperiod of the tasks up to it.
-fn admit_row(body: &[u8], row: u8, hyperperiod: u64) -> Result<(Task, u64), Fault>
+fn admit_row(body: &[u8], row: u8, before: Hyperperiod) -> Result<(Task, Hyperperiod), Fault>
     requires room { ⌜ row < 16 ⌝ ∗ ⌜ 29 * row ≤ length (now body) ⌝ }
-    requires before { ⌜ IsLcm hyperperiod (periods (rowsOf (now body) row)) ⌝ ∗ ⌜ hyperperiod ≤ 1000000000 ⌝ }
+    requires repeating { ⌜ IsLcm (before .ticks) (periods (rowsOf (now body) row)) ⌝ }
     ensures { λ r. ⌜ Cases r
-        (λ p. RowAdmitted (now (body .entry)) row (p .0) (p .1))
+        (λ p. RowAdmitted (now (body .entry)) row (p .0) (p .1 .ticks))
         (λ e. firstWrong (rowChecks (now (body .entry)) row) ≡ Some e) ⌝ }
 {
     let task = row_task(body, row)?;
     keep_rules(task, row)?;
-    match joined_period(hyperperiod, task.period) {
-        Some(joined) => Ok((task, joined)),
+    match before.join(task.period) {
+        Some(hyperperiod) => Ok((task, hyperperiod)),
         None => Err(Fault {
             layer: Layer::Plan,
             cause: Cause::HyperperiodTooLong,
@@ -157,12 +166,12 @@ fn admit_row(body: &[u8], row: u8, hyperperiod: u64) -> Result<(Task, u64), Faul
 pub(crate) fn read_rows(body: &[u8], count: u8) -> Result<Rows, Fault>
     requires { ⌜ count ≤ 16 ⌝ }
     ensures { λ r. ⌜ Cases r
-        (λ rows. (length (rows .tasks) ≡ 16) × RowsAdmitted (now (body .entry)) count (take count (rows .tasks)) (rows .«greatest_offset») (rows .hyperperiod))
+        (λ rows. (length (rows .tasks) ≡ 16) × RowsAdmitted (now (body .entry)) count (take count (rows .tasks)) (rows .«greatest_offset») (rows .hyperperiod .ticks))
         (λ e. firstWrong (rowsChecks (now (body .entry)) count) ≡ Some e) ⌝ }
 {
     let mut tasks = [NO_TASK; MOST_TASKS];
     let mut greatest_offset: u32 = 0;
-    let mut hyperperiod = 1;
+    let mut hyperperiod = Hyperperiod::of_none();
     for row in 0..count {
         let (task, joined) = admit_row(body, row, hyperperiod)?;
         tasks[row as usize] = task;

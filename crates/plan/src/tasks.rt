@@ -23,14 +23,14 @@ pub struct Task {
 
 /// A rule that a task breaks, and the first bit in a row of the field that is named for it.
 #[derive(Clone, Copy)]
-pub(crate) struct Flaw {
-    pub(crate) cause: Cause,
-    pub(crate) first: u8,
+pub struct Flaw {
+    pub cause: Cause,
+    pub first: u8,
 }
 
 impl Task {
     /// The first rule that this task breaks by itself, if there is one.
-    pub(crate) fn flaw(self) -> Option<Flaw>
+    pub fn flaw(self) -> Option<Flaw>
         ensures { λ r. ⌜ r ≡ firstWrong (ruleChecks flawAt self) ⌝ }
     {
         if self.period == 0 {

@@ -1,9 +1,12 @@
 //! Admission: from bytes to a plan, or to the first fault.
 
 ghost use mathlib.Core.Path.{_≡_};
-ghost use Rattle.plan.specs.Admission.{admission};
+ghost use Prim.Native.Nat.{_≤_};
+ghost use Rattle.plan.specs.Admission.{admission, endChecks};
+ghost use Rattle.plan.specs.Checks.{firstWrong};
 ghost use Rattle.plan.specs.Plans.{contentOf};
 ghost use Rattle.std.specs.Results.{Cases};
+ghost use Rattle.std.specs.declared.option.Option.the-variants.{None, Some};
 ghost use Rattle.std.specs.declared.result.Result.the-variants.{Err, Ok};
 use super::Plan;
 use crate::heads::read_head;
@@ -22,15 +25,7 @@ pub fn admit(bytes: &[u8]) -> Result<Plan, Fault>
 {
     let (head, body) = read_head(bytes)?;
     let rows = read_rows(body, head.count)?;
-    if body.len() > ROW_BYTES * head.count as usize {
-        let bit = row_bit(head.count, 0);
-        return Err(Fault {
-            layer: Layer::Bytes,
-            cause: Cause::ExtraBytes,
-            row: None,
-            bit: Some(bit),
-        });
-    }
+    end_after(body, head.count)?;
     let tasks = rows.tasks;
     Ok(Plan {
         block_reload_time: head.block_reload_time,
@@ -39,4 +34,21 @@ pub fn admit(bytes: &[u8]) -> Result<Plan, Fault>
         greatest_offset: rows.greatest_offset,
         hyperperiod: rows.hyperperiod,
     })
+}
+
+/// Refuses bytes after the last row.
+fn end_after(body: &[u8], count: u8) -> Result<(), Fault>
+    ensures { λ r. ⌜ Cases r
+        (λ _. firstWrong (endChecks (now (body .entry)) count) ≡ None)
+        (λ e. firstWrong (endChecks (now (body .entry)) count) ≡ Some e) ⌝ }
+{
+    if body.len() > ROW_BYTES * count as usize {
+        return Err(Fault {
+            layer: Layer::Bytes,
+            cause: Cause::ExtraBytes,
+            row: None,
+            bit: Some(row_bit(count, 0)),
+        });
+    }
+    Ok(())
 }

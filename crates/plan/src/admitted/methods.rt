@@ -1,12 +1,11 @@
 //! What an admitted plan says.
 
 ghost use mathlib.Core.Path.{_≡_};
-ghost use Prim.Native.Nat.{_≤_};
-ghost use Rattle.plan.specs.Admission.{hyperperiodLimit};
 ghost use Rattle.plan.specs.Periods.{IsLcm};
 ghost use Rattle.plan.specs.Plans.{contentOf, tasksIn};
 ghost use Rattle.plan.specs.Tasks.{greatest, offsets, periods};
 use super::Plan;
+use crate::periods::Hyperperiod;
 use crate::tasks::Task;
 
 impl Plan {
@@ -32,9 +31,8 @@ impl Plan {
     }
 
     /// The least common multiple of the tasks' periods.
-    pub fn hyperperiod(&self) -> u64
-        ensures least { λ r. ⌜ IsLcm r (periods (tasksIn (now (self .entry)))) ⌝ }
-        ensures limited { λ r. ⌜ r ≤ hyperperiodLimit ⌝ }
+    pub fn hyperperiod(&self) -> Hyperperiod
+        ensures { λ r. ⌜ IsLcm (r .ticks) (periods (tasksIn (now (self .entry)))) ⌝ }
     {
         self.hyperperiod
     }

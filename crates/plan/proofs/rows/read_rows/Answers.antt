@@ -10,7 +10,7 @@ use Rattle.plan.proofs.RowsLaws.{rows-none, rows-more, row-stops}
 use Rattle.plan.proofs.rows.read_rows.Needs as need
 
 pub loop-row-holds : need.loop-row-holds
-loop-row-holds c = (refl, rows-none _)
+loop-row-holds c = (refl, rows-none _ _ (c .of-none-hyperperiod .ensures))
 
 pub returns-in-Break-task : need.returns-in-Break-task
 returns-in-Break-task c =
@@ -27,5 +27,5 @@ loop-row-again c =
 pub returns : need.returns
 returns c =
     let all : c .loop-row .row ≡ c .args .count = omega arith in
-    let Done : ℕ → Type 0 = λ n. RowsAdmitted (c .args .body .now) n (take n (c .loop-row .tasks)) (c .loop-row .greatest-offset) (c .loop-row .hyperperiod) in
+    let Done : ℕ → Type 0 = λ n. RowsAdmitted (c .args .body .now) n (take n (c .loop-row .tasks)) (c .loop-row .greatest-offset) (c .loop-row .hyperperiod .ticks) in
     (c .loop-row .inv .0, subst Done all (c .loop-row .inv .1))

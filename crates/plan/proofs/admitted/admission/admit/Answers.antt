@@ -1,9 +1,8 @@
-use Prim.Native.Nat.{_≤_, _<_, _^_}
+use Prim.Native.Nat.{_≤_, _<_}
 use native.Mathlib.Omega.{arith}
-use borrow.Author.Needs.{needs}
 use Rattle.std.proofs.shelf.Results.{err-from-errBy}
 use Rattle.bits.proofs.Fields.{spelled-below-power}
-use Rattle.plan.proofs.AdmissionLaws.{rows-refuse, extra-refuses, all-passed}
+use Rattle.plan.proofs.AdmissionLaws.{rows-refuse, end-refuses, all-passed}
 use Rattle.plan.proofs.admitted.admission.admit.Needs as need
 
 pub read-rows-requires : need.read-rows-requires
@@ -14,15 +13,20 @@ read-rows-requires c κs =
 pub returns-in-Break-rows : need.returns-in-Break-rows
 returns-in-Break-rows c =
     let head = c .in-Continue-head .ensures tt in
-    let refused = rows-refuse (c .args .bytes .now) (head .0) (c .in-Continue-head .head .count) (c .in-Continue-head .body .now) (head .1 .count) (head .1 .after) (c .in-Break-rows .field-0 .0) (c .in-Break-rows .ensures tt) in
+    let refused =
+    rows-refuse (c .args .bytes .now) (head .0) (c .in-Continue-head .head .count) (c .in-Continue-head .body .now) (head .1 .count) (head .1 .after)
+    (c .in-Break-rows .field-0 .0) (c .in-Break-rows .ensures tt) in
     let p = err-from-errBy (c .from-residual-in-Break-rows .result) (c .from-residual-in-Break-rows .ensures .1) in
     rw (p .1, p .2) refused
 
-pub returns-then-body-head : need.returns-then-body-head
-returns-then-body-head c =
+pub returns-in-Break-end-after : need.returns-in-Break-end-after
+returns-in-Break-end-after c =
     let head = c .in-Continue-head .ensures tt in
-    extra-refuses (c .args .bytes .now) (head .0) (c .in-Continue-head .head .count) (c .in-Continue-head .body .now) (head .1 .count) (head .1 .after)
-    (c .in-Continue-rows .ensures tt .1 .passed) _ (c .if-body-head .taken) (c .row-bit-bit .ensures)
+    let refused =
+    end-refuses (c .args .bytes .now) (head .0) (c .in-Continue-head .head .count) (c .in-Continue-head .body .now) (head .1 .count) (head .1 .after)
+    (c .in-Continue-rows .ensures tt .1 .passed) (c .in-Break-end-after .field-0 .0) (c .in-Break-end-after .ensures tt) in
+    let p = err-from-errBy (c .from-residual-in-Break-end-after .result) (c .from-residual-in-Break-end-after .ensures .1) in
+    rw (p .1, p .2) refused
 
 pub ghost-result : need.ghost-result
 ghost-result c =
@@ -30,12 +34,13 @@ ghost-result c =
     let rows = c .in-Continue-rows .ensures tt in
     let low : 1 ≤ c .in-Continue-head .head .count = omega (arith, head .count) in
     let high : c .in-Continue-head .head .count ≤ 16 = omega (arith, head .count, spelled-below-power (c .args .bytes .now) 4 4) in
-    let reload : c .in-Continue-head .head .«block_reload_time» < 64 = omega (arith, head .reload, spelled-below-power (c .args .bytes .now) 8 6) in
-    (rows .0, ((low, high), (reload, (rows .1 .keeping, (rows .1 .farthest, (rows .1 .repeating, (rows .1 .limited, tt)))))))
+    let reload : c .in-Continue-head .head .«block_reload_time» < 64 =
+    omega (arith, head .reload, spelled-below-power (c .args .bytes .now) 8 6) in
+    (rows .0, ((low, high), (reload, (rows .1 .keeping, (rows .1 .farthest, (rows .1 .repeating, tt))))))
 
 pub returns : need.returns
 returns c =
     let head = c .in-Continue-head .ensures tt in
     let rows = c .in-Continue-rows .ensures tt .1 in
     all-passed (c .args .bytes .now) (head .0) (c .in-Continue-head .head .count) (c .in-Continue-head .body .now) (head .1 .count) (head .1 .after)
-    (rows .passed) _ _ (c .if-body-head .left) (head .1 .reload) (rows .spelled)
+    (rows .passed) _ _ (c .in-Continue-end-after .ensures tt) (head .1 .reload) (rows .spelled)
