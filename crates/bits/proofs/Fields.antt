@@ -35,6 +35,13 @@ spelled-below-power bs at zero = omega arith
 spelled-below-power bs at (suc w) =
     omega (arith, spelled-below-power bs at w, bit-below-two bs (at + w), pow-suc 2 w)
 
+-- two fields that agree in each of their bits
+pub spelled-same : (cs bs : List ℕ) (c b w : ℕ) → ((k : ℕ) → k < w → bit cs (c + k) ≡ bit bs (b + k)) → spelled cs c w ≡ spelled bs b w
+unfolding spelled
+spelled-same cs bs c b zero h = refl
+spelled-same cs bs c b (suc w) h =
+    omega (arith, spelled-same cs bs c b w (λ k l. h k (omega arith)), h w (omega arith))
+
 -- a value shifted left by one, with the next bit in the free place
 pub spelled-shift : (bs : List ℕ) (at w v b : ℕ) → w < 64 → v ≡ spelled bs at w → b ≡ bit bs (at + w) → bitOr ((v * 2 ^ 1) % 2 ^ 64) b ≡ spelled bs at (w + 1)
 spelled-shift bs at w v b h e f =

@@ -1,1 +1,4 @@
 pub mod Fields
+pub mod Layouts
+pub mod OneBit
+pub mod Writes

@@ -1,2 +1,4 @@
 pub mod Bits
+pub mod Layouts
 pub mod Readers
+pub mod Writers

@@ -1,3 +1,7 @@
 //! Bit-packed fields, most significant bit first.
 
 pub mod reader;
+pub mod writer;
+
+/// The widest field.
+const WIDEST: u32 = 64;

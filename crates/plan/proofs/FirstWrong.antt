@@ -35,3 +35,12 @@ module _ {F : Type 0} where
   pub unless-ok : {X : Type 0} (o : Option F) (x y : X) → Ok x ≡ unless o y → (o ≡ None) × (x ≡ y)
   unless-ok None x y e = (refl, cc)
   unless-ok (Some f) x y e = let clash : _≡_ {A = ℕ} 0 1 = cc in absurd (omega arith)
+
+  -- where nothing is wrong, nothing is wrong in either part
+  pub both-passed : (xs ys : List (Check F)) → firstWrong (xs ++ ys) ≡ None → (firstWrong xs ≡ None) × (firstWrong ys ≡ None)
+  both-passed [] ys e = (refl, e)
+  both-passed (x ∷ xs) ys e =
+      let s = none-left (x .wrong) (x .answer) (firstWrong (xs ++ ys)) e in
+      let r = both-passed xs ys (s .1) in
+      let skipped : cond (x .wrong) (Some (x .answer)) (firstWrong xs) ≡ firstWrong xs = cc (s .0) in
+      (skipped ∙ r .0, r .1)

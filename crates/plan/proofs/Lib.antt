@@ -1,8 +1,10 @@
 mod Multiples
-mod Commons
+pub mod Commons
 mod Lines
 mod HeadBits
-mod FirstWrong
-mod RowLaws
-mod RowsLaws
-mod AdmissionLaws
+pub mod FirstWrong
+pub mod RowLaws
+pub mod RowsLaws
+pub mod AdmissionLaws
+pub mod Encodings
+pub mod Passing

@@ -38,7 +38,7 @@ counting-split a (suc m) k (suc n) e =
     ap (λ (z : List ℕ). a ∷ z) (counting-split (a + 1) m k n (omega arith) ∙ ap (λ (z : ℕ). counting (a + 1) m ++ counting z k) start)
 
 -- the checks of n rows are those of the first i, of row i, and of the others
-rows-split : (b : List ℕ) (i k n : ℕ) → n ≡ i + suc k → rowsChecks b n ≡ rowsChecks b i ++ (rowChecks b i ++ joined (rowChecks b) (counting (i + 1) k))
+pub rows-split : (b : List ℕ) (i k n : ℕ) → n ≡ i + suc k → rowsChecks b n ≡ rowsChecks b i ++ (rowChecks b i ++ joined (rowChecks b) (counting (i + 1) k))
 rows-split b i k n e =
     ap (joined (rowChecks b)) (counting-split 0 i (suc k) n e ∙ ap (λ (z : ℕ). counting 0 i ++ counting z (suc k)) (zero-add i))
     ∙ joined-append (rowChecks b) (counting 0 i) (counting i (suc k))
@@ -49,7 +49,7 @@ row-stops b i n f h p w =
     ap firstWrong (rows-split b i (n - (i + 1)) n (omega arith))
     ∙ (passed-before (rowsChecks b i) (rowChecks b i ++ rest) p ∙ wrong-before (rowChecks b i) rest f w)
 
-row-passes : (b : List ℕ) (i : ℕ) → firstWrong (rowsChecks b i) ≡ None → firstWrong (rowChecks b i) ≡ None → firstWrong (rowsChecks b (i + 1)) ≡ None
+pub row-passes : (b : List ℕ) (i : ℕ) → firstWrong (rowsChecks b i) ≡ None → firstWrong (rowChecks b i) ≡ None → firstWrong (rowsChecks b (i + 1)) ≡ None
 row-passes b i p q =
     ap firstWrong (rows-split b i 0 (i + 1) (omega arith))
     ∙ (passed-before (rowsChecks b i) (rowChecks b i ++ []) p ∙ passed-before (rowChecks b i) [] q)
@@ -58,7 +58,7 @@ greatest-push : (ns : List ℕ) (m : ℕ) → greatest (ns ++ (m ∷ [])) ≡ ma
 greatest-push [] m = omega arith
 greatest-push (n ∷ ns) m = ap (max n) (greatest-push ns m) ∙ omega arith
 
-all-push : {X : Type 0} (p : X → Bool) (xs : List X) (x : X) → allOf p xs ≡ true → p x ≡ true → allOf p (xs ++ (x ∷ [])) ≡ true
+pub all-push : {X : Type 0} (p : X → Bool) (xs : List X) (x : X) → allOf p xs ≡ true → p x ≡ true → allOf p (xs ++ (x ∷ [])) ≡ true
 all-push p [] x e h = and-from _ _ h refl
 all-push p (y ∷ xs) x e h =
     let s = and-parts (p y) (allOf p xs) e in

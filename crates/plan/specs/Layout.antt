@@ -1,13 +1,15 @@
 -- Where a plan's bits stand. Assumes nothing.
 --     revisionOf bs, countOf bs, reloadOf bs, headSpareOf bs      the fields of the head, the first two bytes
+--     headWidths, headValues revision count reload spare      the widths of the head's fields, and what they hold
 --     body bs               the bytes after the head
 --     rowBytes b i          the bytes of the body b from row i on
 --     taskOf r, spareOf r   the task and the spare bits that the first 29 of the bytes r spell
+--     rowWidths, rowValues t spare      the widths of a row's fields, and what they hold
 --     rowOf b i             the task of row i of the body b
 --     rowsOf b n            the tasks of its first n rows
 --     rowBit i first        the bit `first` of row i, counted from the plan's first bit
-use mathlib.Core.List.{List, map}
-use Prim.Native.Nat.{ℕ, _+_, _*_}
+use mathlib.Core.List.{List, [], _∷_, map}
+use Prim.Native.Nat.{ℕ, _+_, _-_, _*_}
 use lib.ListN.{drop}
 use Rattle.std.specs.Iters.{counting}
 use Rattle.bits.specs.Bits.{spelled}
@@ -25,6 +27,12 @@ reloadOf bs = spelled bs 8 6
 
 abbrev pub headSpareOf : List ℕ → ℕ
 headSpareOf bs = spelled bs 14 2
+
+abbrev pub headWidths : List ℕ
+headWidths = 4 ∷ 4 ∷ 6 ∷ 2 ∷ []
+
+abbrev pub headValues : ℕ → ℕ → ℕ → ℕ → List ℕ
+headValues revision count reload spare = revision ∷ (count - 1) ∷ reload ∷ spare ∷ []
 
 abbrev pub body : List ℕ → List ℕ
 body bs = drop 2 bs
@@ -47,6 +55,13 @@ taskOf r = record {
 
 abbrev pub spareOf : List ℕ → ℕ
 spareOf r = spelled r 228 4
+
+abbrev pub rowWidths : List ℕ
+rowWidths = 20 ∷ 20 ∷ 20 ∷ 20 ∷ 8 ∷ 12 ∷ 64 ∷ 64 ∷ 4 ∷ []
+
+abbrev pub rowValues : Task → ℕ → List ℕ
+rowValues t spare =
+    t .offset ∷ t .period ∷ t .deadline ∷ t .work ∷ t .priority ∷ t .«fixed_delay» ∷ t .useful .lines ∷ t .evicting .lines ∷ spare ∷ []
 
 abbrev pub rowOf : List ℕ → ℕ → Task
 rowOf b i = taskOf (rowBytes b i)

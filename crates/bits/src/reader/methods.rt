@@ -8,9 +8,7 @@ ghost use Rattle.bits.specs.Readers.{bytesOf, placeOf, available};
 ghost use Rattle.std.specs.Options.{Cases};
 ghost use Rattle.std.specs.declared.option.Option.the-variants.{None, Some};
 use super::BitReader;
-
-/// The widest field.
-const WIDEST: u32 = 64;
+use crate::WIDEST;
 
 fn bit_at(bytes: &[u8], i: u128) -> u8
     requires { ⌜ i < 8 * length (now bytes) ⌝ }

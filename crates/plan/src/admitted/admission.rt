@@ -4,7 +4,7 @@ ghost use mathlib.Core.Path.{_≡_};
 ghost use Prim.Native.Nat.{_≤_};
 ghost use Rattle.plan.specs.Admission.{admission, endChecks};
 ghost use Rattle.plan.specs.Checks.{firstWrong};
-ghost use Rattle.plan.specs.Plans.{contentOf};
+ghost use Rattle.plan.specs.Plans.{OnlyEncoding, contentOf};
 ghost use Rattle.std.specs.Results.{Cases};
 ghost use Rattle.std.specs.declared.option.Option.the-variants.{None, Some};
 ghost use Rattle.std.specs.declared.result.Result.the-variants.{Err, Ok};
@@ -19,9 +19,10 @@ use fault::Layer;
 
 /// The plan that these bytes spell, or the first thing that is wrong with them.
 pub fn admit(bytes: &[u8]) -> Result<Plan, Fault>
-    ensures { λ r. ⌜ Cases r
+    ensures answer { λ r. ⌜ Cases r
         (λ p. admission (now (bytes .entry)) ≡ Ok (contentOf p))
         (λ e. admission (now (bytes .entry)) ≡ Err e) ⌝ }
+    ensures encoding { λ r. ⌜ Cases r (λ p. OnlyEncoding (contentOf p) (now (bytes .entry))) (λ _. Unit {0}) ⌝ }
 {
     let (head, body) = read_head(bytes)?;
     let rows = read_rows(body, head.count)?;
