@@ -1,6 +1,6 @@
 -- A part of a buffer that was written anew.
 use mathlib.Core.List.{List, _++_}
-use mathlib.Core.Path.{_≡_, sym, ap, _∙_}
+use mathlib.Core.Path.{_≡_, sym, subst, _∙_}
 use Prim.Native.Nat.{ℕ, _+_, _-_, _*_, _≤_}
 use native.Mathlib.Omega.{arith}
 use borrow.Rule.Slice.PartMut.{putMid, postOf}
@@ -25,10 +25,13 @@ head-written xs ys n reload e h v = record {
   size = length-written 0 2 xs ys h e;
 }
 
-pub row-written : (xs ys : List ℕ) (i k : ℕ) (t : Task) → k ≡ 29 → length ys ≡ k → 2 + 29 * (i + 1) ≤ length xs → fieldsAt ys 0 rowWidths ≡ rowValues t 0 → RowWritten xs (putMid (2 + 29 * i) k xs ys) i t
-row-written xs ys i k t e l h v = record {
+row-written-at : (xs ys : List ℕ) (i k : ℕ) (t : Task) → k ≡ 29 → length ys ≡ k → 2 + 29 * (i + 1) ≤ length xs → fieldsAt ys 0 rowWidths ≡ rowValues t 0 → RowWritten xs (putMid (2 + 29 * i) k xs ys) i t
+row-written-at xs ys i k t e l h v = record {
   front = take-putMid-below (2 + 29 * i) k xs ys (2 + 29 * i) (omega arith) (omega arith);
   row = row-at (putMid (2 + 29 * i) k xs ys) i rowWidths ∙ (fieldsAt-in-mid (2 + 29 * i) k xs ys (16 + 232 * i) 0 rowWidths (omega arith) (omega arith) (omega arith) ∙ v);
   rest = drop-putMid (2 + 29 * i) k xs ys (2 + 29 * (i + 1)) (omega arith) (omega arith) l;
   size = length-written (2 + 29 * i) k xs ys (omega arith) l;
 }
+
+pub row-written : (xs ys : List ℕ) (start i k : ℕ) (t : Task) → start ≡ 2 + 29 * i → k ≡ 29 → length ys ≡ k → 2 + 29 * (i + 1) ≤ length xs → fieldsAt ys 0 rowWidths ≡ rowValues t 0 → RowWritten xs (putMid start k xs ys) i t
+row-written xs ys start i k t s e l h v = subst (λ (z : ℕ). RowWritten xs (putMid z k xs ys) i t) (sym s) (row-written-at xs ys i k t e l h v)

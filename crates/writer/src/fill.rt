@@ -52,11 +52,18 @@ pub(crate) fn write_head(buffer: &mut [u8], count: u8, block_reload_time: u8)
     fill_head(&mut buffer[0..2], count, block_reload_time);
 }
 
+/// The first byte of a row.
+fn row_start(row: u8) -> usize
+    ensures { λ r. ⌜ r ≡ 2 + 29 * row ⌝ }
+{
+    2 + ROW_BYTES * row as usize
+}
+
 /// Writes a task into its row, in the middle of a buffer.
 pub(crate) fn write_row(buffer: &mut [u8], row: u8, task: Task)
     requires { ⌜ 2 + 29 * (row + 1) ≤ length (now buffer) ⌝ ∗ ⌜ Fits task ⌝ }
     ensures { λ _. ⌜ RowWritten (now (buffer .entry)) (now (buffer .exit)) row task ⌝ }
 {
-    let start = 2 + ROW_BYTES * row as usize;
+    let start = row_start(row);
     fill_row(&mut buffer[start..start + ROW_BYTES], task);
 }

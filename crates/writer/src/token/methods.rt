@@ -66,6 +66,19 @@ impl PlanWriter {
         Ok(whole_bytes(count))
     }
 
+    /// Gives an unfinished plan up, and answers how many rows were written.
+    pub fn abandon(self) -> u8
+        ensures { λ r. ⌜ r ≡ self .next ⌝ }
+    {
+        let rows = self.next;
+        let PlanWriter {
+            count: _,
+            next: _,
+            hyperperiod: _,
+        } = self;
+        rows
+    }
+
     /// Refuses a row that cannot be written; otherwise the hyperperiod with it.
     fn check_row(&self, room: usize, task: Task) -> Result<Hyperperiod, Fault>
         ensures { λ r. ⌜ Cases r
