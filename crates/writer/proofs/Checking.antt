@@ -48,6 +48,9 @@ module _ (w : PlanWriter) (t : Task) (room : ℕ) where
     pub rule-refuses : (f : Fault) → firstWrong (ruleChecks (inWriter (w .next)) t) ≡ Some f → firstWrong (rowChecks w t room) ≡ Some f
     rule-refuses f e = past-place ∙ wrong-before (ruleChecks (inWriter (w .next)) t) (periodChecks w t) f e
 
+    pub period-refuses : (f : Fault) → firstWrong (ruleChecks (inWriter (w .next)) t) ≡ None → firstWrong (periodChecks w t) ≡ Some f → firstWrong (rowChecks w t room) ≡ Some f
+    period-refuses f kept e = past-place ∙ (passed-before (ruleChecks (inWriter (w .next)) t) (periodChecks w t) kept ∙ e)
+
     pub row-checked : (h : ℕ) → firstWrong (ruleChecks (inWriter (w .next)) t) ≡ None → Joins h (w .hyperperiod .ticks) (t .period) → h ≤ hyperperiodLimit → RowChecked w t room h
     row-checked h kept joins small =
         let free = none-left (leb (w .count) (w .next)) _ _ placed in

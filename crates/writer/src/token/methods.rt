@@ -3,10 +3,11 @@ ghost use mathlib.Core.Path.{_≡_};
 ghost use Prim.Native.Nat.{_+_, _*_, _≤_, _<_};
 ghost use Rattle.plan.specs.Checks.{firstWrong};
 ghost use Rattle.plan.specs.Flaws.{ruleChecks};
+ghost use Rattle.plan.specs.Periods.{Joins};
 ghost use Rattle.plan.specs.Tasks.{fitsRow};
 ghost use Rattle.std.specs.Results.{Cases};
 ghost use Rattle.std.specs.declared.option.Option.the-variants.{None, Some};
-ghost use Rattle.writer.specs.Rules.{beginChecks, finishChecks, inWriter, placeChecks, refusal, rowChecks, wholeBytes};
+ghost use Rattle.writer.specs.Rules.{beginChecks, finishChecks, inWriter, periodChecks, placeChecks, refusal, rowChecks, wholeBytes};
 ghost use Rattle.writer.specs.Written.{Begun, Moved, ReadsBack, RowChecked, Unmoved};
 use super::PlanWriter;
 use crate::fill::write_head;
@@ -42,9 +43,7 @@ impl PlanWriter {
         ensures moved { λ r. ⌜ Cases r (λ _. Moved (now (buffer .entry)) (now (buffer .exit)) (now (self .entry)) (now (self .exit)) task) (λ _. Unit {0}) ⌝ }
     {
         let hyperperiod = self.check_row(buffer.len(), task)?;
-        write_row(buffer, self.next, task);
-        self.next += 1;
-        self.hyperperiod = hyperperiod;
+        self.write_next(buffer, task, hyperperiod);
         Ok(())
     }
 
@@ -87,10 +86,29 @@ impl PlanWriter {
     {
         self.check_place(room, task)?;
         keep_rules(task, self.next)?;
+        self.join_period(task)
+    }
+
+    /// The common period with this task.
+    fn join_period(&self, task: Task) -> Result<Hyperperiod, Fault>
+        ensures { λ r. ⌜ Cases r
+            (λ h. Joins (h .ticks) (now (self .entry) .hyperperiod .ticks) (task .period))
+            (λ e. firstWrong (periodChecks (now (self .entry)) task) ≡ Some e) ⌝ }
+    {
         match self.hyperperiod.join(task.period) {
             Some(hyperperiod) => Ok(hyperperiod),
             None => Err(refused(Cause::HyperperiodTooLong, Some(self.next))),
         }
+    }
+
+    /// Writes a row that passed its checks.
+    fn write_next(&mut self, buffer: &mut [u8], task: Task, hyperperiod: Hyperperiod)
+        requires { ⌜ RowChecked (now self) task (length (now buffer)) (hyperperiod .ticks) ⌝ }
+        ensures { λ _. ⌜ Moved (now (buffer .entry)) (now (buffer .exit)) (now (self .entry)) (now (self .exit)) task ⌝ }
+    {
+        write_row(buffer, self.next, task);
+        self.next += 1;
+        self.hyperperiod = hyperperiod;
     }
 
     fn check_place(&self, room: usize, task: Task) -> Result<(), Fault>

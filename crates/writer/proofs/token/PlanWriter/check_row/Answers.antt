@@ -1,5 +1,5 @@
-use Rattle.std.proofs.shelf.Results.{err-from-errBy}
-use Rattle.writer.proofs.Checking.{place-refuses, row-checked, rule-refuses}
+use Rattle.std.proofs.shelf.Results.{cases-weaker, err-from-errBy}
+use Rattle.writer.proofs.Checking.{period-refuses, place-refuses, row-checked, rule-refuses}
 use Rattle.writer.proofs.token.PlanWriter.check_row.Needs as need
 
 pub returns-in-Break-check-place : need.returns-in-Break-check-place
@@ -16,7 +16,10 @@ returns-in-Break-keep-rules c =
     let p = err-from-errBy (c .from-residual-in-Break-keep-rules .result) (c .from-residual-in-Break-keep-rules .ensures .1) in
     rw (p .1, p .2) refused
 
-pub returns-in-Some : need.returns-in-Some
-returns-in-Some c =
-    row-checked (c .args .self .now) (c .args .task) (c .args .room) (c .in-Continue-check-place .ensures tt) (c .in-Some .hyperperiod .ticks)
-    (c .in-Continue-keep-rules .ensures tt) (c .in-Some .ensures tt) (c .in-Some .hyperperiod .limited)
+pub returns : need.returns
+returns c =
+    let placed = c .in-Continue-check-place .ensures tt in
+    let kept = c .in-Continue-keep-rules .ensures tt in
+    cases-weaker (c .join-period .result) (c .join-period .ensures)
+    (λ h joins. row-checked (c .args .self .now) (c .args .task) (c .args .room) placed (h .ticks) kept joins (h .limited))
+    (λ e refused. period-refuses (c .args .self .now) (c .args .task) (c .args .room) placed e kept refused)
