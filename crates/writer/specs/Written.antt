@@ -87,6 +87,7 @@ pub record Unmoved (before after : List ℕ) (w v : PlanWriter) : Type 0 where
   pub next : v .next ≡ w .next
   pub hyperperiod : v .hyperperiod .ticks ≡ w .hyperperiod .ticks
   pub same : after ≡ before
+  pub kept : (reload : ℕ) (ts : List Task) → Wrote w before reload ts → Wrote v after reload ts
 
 -- A row that passed its checks, with the common period h of the rows up to it.
 pub record RowChecked (w : PlanWriter) (t : Task) (room h : ℕ) : Type 0 where
