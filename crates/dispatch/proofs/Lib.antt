@@ -1,0 +1,2 @@
+mod Urgencies
+mod Tables
