@@ -1,0 +1,9 @@
+//! What a camera maker writes to bring a dispatch rule of his own.
+
+mod favourite;
+
+pub use favourite::Favourite;
+pub use favourite::FavouritePolicy;
+
+#[cfg(test)]
+mod tests;
