@@ -46,9 +46,9 @@ rules-kept at t e =
     let second = none-left (timesOutOfOrder t) _ _ (first .1) in
     (first .0, second .0, none-left (usefulNotEvicting t) _ _ (second .1) .0)
 
-pub lawful-row : (r : List ℕ) → (zeroPeriod (taskOf r) ≡ false) × (timesOutOfOrder (taskOf r) ≡ false) × (usefulNotEvicting (taskOf r) ≡ false) → lawful (taskOf r) ≡ true
-lawful-row r k =
-    and-from _ _ (and-from _ _ (and-from _ _ (spelled-fits r) (not-from-false _ (k .0))) (not-from-false _ (k .1))) (not-from-false _ (k .2))
+pub lawful-from : (t : Task) → fitsRow t ≡ true → (zeroPeriod t ≡ false) × (timesOutOfOrder t ≡ false) × (usefulNotEvicting t ≡ false) → lawful t ≡ true
+lawful-from t fits k =
+    and-from _ _ (and-from _ _ (and-from _ _ fits (not-from-false _ (k .0))) (not-from-false _ (k .1))) (not-from-false _ (k .2))
 
 -- A row whose bytes are in order and whose task keeps the rules.
 module _ (b : List ℕ) (i : ℕ) (t : Task)
@@ -69,7 +69,7 @@ module _ (b : List ℕ) (i : ℕ) (t : Task)
       omega (arith, length-drop (29 * i) b)
 
   row-lawful : lawful t ≡ true
-  row-lawful = subst (λ (z : Task). lawful z ≡ true) (sym row-spelled) (lawful-row (rowBytes b i) (rules-kept (inRow i) (rowOf b i) row-rules))
+  row-lawful = subst (λ (z : Task). lawful z ≡ true) (sym row-spelled) (lawful-from (rowOf b i) (spelled-fits (rowBytes b i)) (rules-kept (inRow i) (rowOf b i) row-rules))
 
   row-checked : firstWrong (rowChecks b i) ≡ firstWrong (periodChecks b i)
   row-checked =

@@ -26,7 +26,7 @@ hyperperiodLimit = 1000000000
 abbrev pub IsLcm : ℕ → List ℕ → Type 0
 IsLcm n ts = (0 < n) × (common n ts ≡ true) × ((m : ℕ) → common m ts ≡ true → n ∣ m)
 
--- A common divisor that every common divisor divides, and by which a × b exceeds no common multiple's share.
+-- A common divisor that every common divisor divides. And a × b divides its product with each common multiple, from which the least one follows.
 pub record IsGcd (g a b : ℕ) : Type 0 where
   pub left : g ∣ a
   pub right : g ∣ b

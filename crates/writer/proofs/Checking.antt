@@ -5,12 +5,12 @@ use mathlib.Core.Path.{_≡_, _∙_}
 use Prim.Native.Nat.{ℕ, _^_, _≤_}
 use native.Mathlib.Omega.{arith}
 use lib.Dec.{leb, ltb}
-use Rattle.std.proofs.shelf.Tests.{and-from, and-parts, cond-false, leb-false, ltb-false, ltb-true, not-false, not-from-false, not-from-true}
+use Rattle.std.proofs.shelf.Tests.{and-parts, cond-false, leb-false, ltb-false, ltb-true, not-false, not-from-true}
 use Rattle.std.specs.declared.option.Option.the-variants.{None, Some}
 use Rattle.fault.specs.declared.Fault.{Fault}
 use Rattle.plan.proofs.Commons.{common-found, lcm-pair}
 use Rattle.plan.proofs.FirstWrong.{none-left, passed-before, wrong-before}
-use Rattle.plan.proofs.RowLaws.{rules-kept}
+use Rattle.plan.proofs.RowLaws.{lawful-from, rules-kept}
 use Rattle.plan.specs.declared.tasks.Task.{Task}
 use Rattle.plan.specs.Checks.{firstWrong}
 use Rattle.plan.specs.Flaws.{ruleChecks}
@@ -63,6 +63,6 @@ module _ (w : PlanWriter) (t : Task) (room : ℕ) where
           free = leb-false _ _ (free .0);
           space = ltb-false _ _ (space .0);
           fits = fits-parts t fits;
-          keeping = and-from _ _ (and-from _ _ (and-from _ _ fits (not-from-false _ (rules .0))) (not-from-false _ (rules .1))) (not-from-false _ (rules .2));
+          keeping = lawful-from t fits rules;
           joins = joins;
         }
