@@ -9,11 +9,14 @@ use lib.Dec.{leb}
 use lib.ListN.{length}
 use Rattle.bits.specs.declared.reader.BitReader.{BitReader}
 
+-- They are lent and not changed.
 abbrev pub bytesOf : BitReader → List ℕ
 bytesOf r = r .bytes .now
 
+-- The next field begins there.
 abbrev pub placeOf : BitReader → ℕ
 placeOf r = r .place
 
+-- A number has at most 64 bits.
 abbrev pub available : BitReader → ℕ → Bool
 available r w = leb w 64 && leb (placeOf r + w) (8 * length (bytesOf r))

@@ -17,14 +17,18 @@ use Rattle.dispatch.specs.Rules.{Rule, absent, mostUrgent}
 abbrev pub priorityTable : List Task → List ℕ
 priorityTable ts = map (λ t. t .priority) ts ++ replicate (16 - length ts) 0
 
+-- A greater number is more urgent.
 abbrev pub priorityAt : List ℕ → ℕ → ℕ
 priorityAt ps i = getD ps i 0
 
+-- A smaller number is more urgent.
 abbrev pub untilAt : List Candidate → ℕ → ℕ
 untilAt rows i = getD rows i absent .until
 
+-- The running task plays no part.
 abbrev pub fixedPriority : List ℕ → Rule
 fixedPriority ps rows running = mostUrgent (λ i k. leb (priorityAt ps k) (priorityAt ps i)) rows
 
+-- The running task plays no part.
 abbrev pub earliestDeadline : Rule
 earliestDeadline rows running = mostUrgent (λ i k. leb (untilAt rows i) (untilAt rows k)) rows

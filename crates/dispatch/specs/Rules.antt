@@ -1,5 +1,6 @@
 -- What a dispatch policy means. Assumes nothing.
 --     Rule                  from what is shown of each task, and the running task, to a task or idle
+--     absent                what is shown past the last task
 --     liveAt rows i         task i is shown with a live job
 --     NamesLive rule        the rule names only a task with a live job
 --     orElse o other        o where it is there, otherwise the other
@@ -26,16 +27,20 @@ Rule = List Candidate → Option ℕ → Option ℕ
 abbrev pub absent : Candidate
 absent = record { live = false; left = 0; owed = 0; begun = false; until = 0 }
 
+-- A number past the last row is no task.
 abbrev pub liveAt : List Candidate → ℕ → Bool
 liveAt rows i = ltb i (length rows) && getD rows i absent .live
 
+-- Whatever it is shown.
 abbrev pub NamesLive : Rule → Type 0
 NamesLive rule = (rows : List Candidate) (running : Option ℕ) (j : ℕ) → rule rows running ≡ Some j → liveAt rows j ≡ true
 
+-- The first choice, if there is one.
 abbrev pub orElse : Option ℕ → Option ℕ → Option ℕ
 orElse None other = other
 orElse (Some i) other = Some i
 
+-- None where p holds of no number below n.
 unfoldable pub firstSuch : ℕ → (ℕ → Bool) → Option ℕ
 firstSuch zero p = None
 firstSuch (suc n) p = orElse (firstSuch n p) (cond (p n) (Some n) None)
@@ -45,6 +50,7 @@ unfoldable pub mostUrgent : (ℕ → ℕ → Bool) → List Candidate → Option
 mostUrgent urgent rows =
     firstSuch (length rows) (λ i. liveAt rows i && everyBelow (length rows) (λ k. not (liveAt rows k) || urgent i k))
 
+-- The layer over a rule is worked out from that rule alone.
 abbrev pub keeping : Rule → Rule
 keeping rule rows None = rule rows None
 keeping rule rows (Some r) = cond (liveAt rows r) (Some r) (rule rows (Some r))

@@ -15,6 +15,7 @@ letterOf Plan = 80
 letterOf Writer = 87
 letterOf Run = 82
 
+-- As in the table of refusals.
 abbrev pub numberOf : Cause → ℕ
 numberOf EndsEarly = 1
 numberOf ExtraBytes = 2

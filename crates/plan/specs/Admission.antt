@@ -1,5 +1,6 @@
 -- Which byte strings are plans, and what is wrong with the others. Assumes nothing.
 --     Content               what a plan says: the block reload time and the tasks
+--     fault layer cause row bit     a fault with these four parts
 --     headChecks bs         the checks of the head, in their order
 --     byteChecks b i, periodChecks b i      the checks of the bytes of row i of the body b, and of the common period at it
 --     inRow i               how a broken rule of row i is answered
@@ -7,6 +8,8 @@
 --     rowsChecks b n        the checks of the first n rows
 --     endChecks b n         the check that nothing follows the n rows of the body b
 --     checks bs             all checks of the bytes bs, in their order
+--     contentIn bs          the content that the bits of bs spell
+--     unless o x            x where o is none, otherwise the fault o
 --     admission bs          the content that bs spells, or the fault of the first check that is wrong
 use mathlib.Core.Bool.{Bool, true, not}
 use mathlib.Core.List.{List, [], _∷_, _++_}
@@ -31,10 +34,12 @@ use Rattle.plan.specs.Layout.{revisionOf, countOf, reloadOf, headSpareOf, body
 use Rattle.plan.specs.Periods.{commonUpTo, hyperperiodLimit}
 use Rattle.plan.specs.Tasks.{periods}
 
+-- A plan says nothing else: the two derived figures follow from its tasks.
 pub record Content : Type 0 where
   pub reload : ℕ
   pub tasks : List Task
 
+-- A place that is not named is None.
 abbrev pub fault : Layer → Cause → Option ℕ → Option ℕ → Fault
 fault layer cause row bit = record { layer = layer; cause = cause; row = row; bit = bit }
 
@@ -63,9 +68,11 @@ periodChecks b i =
     check (not (commonUpTo hyperperiodLimit (periods (rowsOf b (i + 1))))) (fault Plan HyperperiodTooLong (Some i) None)
     ∷ []
 
+-- First the bytes of the row, then the rules of its task, then the common period.
 abbrev pub rowChecks : List ℕ → ℕ → List (Check Fault)
 rowChecks b i = byteChecks b i ++ (ruleChecks (inRow i) (rowOf b i) ++ periodChecks b i)
 
+-- One row after another, each with all its checks.
 abbrev pub rowsChecks : List ℕ → ℕ → List (Check Fault)
 rowsChecks b n = joined (rowChecks b) (counting 0 n)
 
@@ -73,15 +80,19 @@ rowsChecks b n = joined (rowChecks b) (counting 0 n)
 abbrev pub endChecks : List ℕ → ℕ → List (Check Fault)
 endChecks b n = check (ltb (29 * n) (length b)) (fault Bytes ExtraBytes None (Some (rowBit n 0))) ∷ []
 
+-- The head, as many rows as it says, and then the end.
 abbrev pub checks : List ℕ → List (Check Fault)
 checks bs = headChecks bs ++ (rowsChecks (body bs) (countOf bs) ++ endChecks (body bs) (countOf bs))
 
+-- What the fields say, whether or not they pass the checks.
 abbrev pub contentIn : List ℕ → Content
 contentIn bs = record { reload = reloadOf bs; tasks = rowsOf (body bs) (countOf bs) }
 
+-- A value is answered only where no fault is.
 abbrev pub unless : {X F : Type 0} → Option F → X → Result X F
 unless None x = Ok x
 unless (Some f) x = Err f
 
+-- Every byte string has just one answer.
 abbrev pub admission : List ℕ → Result Content Fault
 admission bs = unless (firstWrong (checks bs)) (contentIn bs)

@@ -6,6 +6,7 @@ use mathlib.Core.Bool.{Bool, true, _&&_, _||_, not}
 use Prim.Native.Nat.{ℕ, zero, suc, _-_, _/_, _%_, _^_}
 use lib.Dec.{eqb}
 
+-- Of 0, of 1, and so on up to n − 1.
 unfoldable pub everyBelow : ℕ → (ℕ → Bool) → Bool
 everyBelow zero p = true
 everyBelow (suc n) p = everyBelow n p && p n

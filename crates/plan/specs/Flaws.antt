@@ -10,6 +10,7 @@ use Rattle.plan.specs.declared.tasks.Task.{Task}
 use Rattle.plan.specs.Checks.{Check, check}
 use Rattle.plan.specs.Tasks.{zeroPeriod, timesOutOfOrder, usefulNotEvicting}
 
+-- The period first, then the order of the times, then the cache blocks.
 abbrev pub ruleChecks : {F : Type 0} → (Cause → ℕ → F) → Task → List (Check F)
 ruleChecks at t =
     check (zeroPeriod t) (at ZeroPeriod 20)
@@ -17,5 +18,6 @@ ruleChecks at t =
     ∷ check (usefulNotEvicting t) (at UsefulNotEvicting 100)
     ∷ []
 
+-- What a task is told to break, before anybody knows its row.
 abbrev pub flawAt : Cause → ℕ → Flaw
 flawAt cause first = record { cause = cause; first = first }

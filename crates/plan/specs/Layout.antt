@@ -15,6 +15,7 @@ use Rattle.std.specs.Iters.{counting}
 use Rattle.bits.specs.Bits.{spelled}
 use Rattle.plan.specs.declared.tasks.Task.{Task}
 
+-- Four bits from the first.
 abbrev pub revisionOf : List ℕ → ℕ
 revisionOf bs = spelled bs 0 4
 
@@ -22,21 +23,27 @@ revisionOf bs = spelled bs 0 4
 abbrev pub countOf : List ℕ → ℕ
 countOf bs = spelled bs 4 4 + 1
 
+-- The ticks that it takes to reload one block.
 abbrev pub reloadOf : List ℕ → ℕ
 reloadOf bs = spelled bs 8 6
 
+-- Two bits that stay 0.
 abbrev pub headSpareOf : List ℕ → ℕ
 headSpareOf bs = spelled bs 14 2
 
+-- Sixteen bits in all.
 abbrev pub headWidths : List ℕ
 headWidths = 4 ∷ 4 ∷ 6 ∷ 2 ∷ []
 
+-- In the order of the widths.
 abbrev pub headValues : ℕ → ℕ → ℕ → ℕ → List ℕ
 headValues revision count reload spare = revision ∷ (count - 1) ∷ reload ∷ spare ∷ []
 
+-- The rows begin with the third byte.
 abbrev pub body : List ℕ → List ℕ
 body bs = drop 2 bs
 
+-- A row has 29 bytes, and the rows stand side by side.
 abbrev pub rowBytes : List ℕ → ℕ → List ℕ
 rowBytes b i = drop (29 * i) b
 
@@ -53,21 +60,27 @@ taskOf r = record {
   evicting = record { lines = spelled r 164 64 };
 }
 
+-- The last four bits of a row, which stay 0.
 abbrev pub spareOf : List ℕ → ℕ
 spareOf r = spelled r 228 4
 
+-- 232 bits in all.
 abbrev pub rowWidths : List ℕ
 rowWidths = 20 ∷ 20 ∷ 20 ∷ 20 ∷ 8 ∷ 12 ∷ 64 ∷ 64 ∷ 4 ∷ []
 
+-- In the order of the widths.
 abbrev pub rowValues : Task → ℕ → List ℕ
 rowValues t spare =
     t .offset ∷ t .period ∷ t .deadline ∷ t .work ∷ t .priority ∷ t .«fixed_delay» ∷ t .useful .lines ∷ t .evicting .lines ∷ spare ∷ []
 
+-- Tasks are numbered from 0 in the order of their rows.
 abbrev pub rowOf : List ℕ → ℕ → Task
 rowOf b i = taskOf (rowBytes b i)
 
+-- The rows 0 to n − 1.
 abbrev pub rowsOf : List ℕ → ℕ → List Task
 rowsOf b n = map (rowOf b) (counting 0 n)
 
+-- Sixteen bits of head, then 232 bits a row.
 abbrev pub rowBit : ℕ → ℕ → ℕ
 rowBit i first = 16 + 232 * i + first

@@ -11,14 +11,17 @@ use mathlib.Core.Path.{_≡_}
 use Prim.Native.Nat.{ℕ, zero, suc, _*_, _%_, _<_, _∣_}
 use lib.Dec.{eqb}
 
+-- Division leaves nothing over, for each of them.
 abbrev pub common : ℕ → List ℕ → Bool
 common n [] = true
 common n (t ∷ ts) = eqb (n % t) 0 && common n ts
 
+-- Looked for from above, as a table would be read.
 unfoldable pub commonUpTo : ℕ → List ℕ → Bool
 commonUpTo zero ts = false
 commonUpTo (suc n) ts = common (suc n) ts || commonUpTo n ts
 
+-- In ticks.
 abbrev pub hyperperiodLimit : ℕ
 hyperperiodLimit = 1000000000
 

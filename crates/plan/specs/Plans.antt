@@ -12,11 +12,14 @@ use Rattle.std.specs.declared.result.Result.the-variants.{Ok}
 use Rattle.bits.specs.Layouts.{Bytes}
 use Rattle.plan.specs.Admission.{Content, admission}
 
+-- The places of the table past the count hold no task.
 abbrev pub tasksIn : Plan → List Task
 tasksIn p = take (p .count) (p .tasks)
 
+-- The reload time and the tasks.
 abbrev pub contentOf : Plan → Content
 contentOf p = record { reload = p .«block_reload_time»; tasks = tasksIn p }
 
+-- An admitted plan can be written down in one way only.
 abbrev pub OnlyEncoding : Content → List ℕ → Type 0
 OnlyEncoding c bs = (other : List ℕ) → Bytes other → admission other ≡ Ok c → other ≡ bs

@@ -2,6 +2,7 @@
 --     ordered input         what the plan of an input says, or its first fault: of the order line, then of the plan
 --     untouched             the summary of a task to which nothing has happened
 --     openingText content   the report of a run to which nothing has happened
+--     answerText answer     the report of a plan or of a fault
 --     reportText input      the report of an input
 --     longestReport         no report has more bytes
 use mathlib.Core.List.{List}
@@ -20,6 +21,7 @@ use Rattle.report.specs.Reports.{openedText, refusedLine}
 abbrev pub ordered : List ℕ → Result Content Fault
 ordered input = then (orderOf input) (λ _. admission (drop 4 input))
 
+-- No job of it has finished, and none was delayed.
 abbrev pub untouched : Summary
 untouched = record { finished = 0; worst = 0; delay = 0 }
 
@@ -31,9 +33,11 @@ openingText content = openedText (Open 0) (replicate (length (content .tasks)) u
 abbrev pub longestReport : ℕ
 longestReport = 1428
 
+-- A plan is answered by its opening, a fault by its line.
 abbrev pub answerText : Result Content Fault → List ℕ
 answerText (Ok content) = openingText content
 answerText (Err fault) = refusedLine fault
 
+-- Every input has just one report.
 abbrev pub reportText : List ℕ → List ℕ
 reportText input = answerText (ordered input)

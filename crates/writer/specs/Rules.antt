@@ -23,9 +23,11 @@ use Rattle.plan.specs.Periods.{commonUpTo, hyperperiodLimit}
 use Rattle.plan.specs.Tasks.{fitsRow}
 use Rattle.writer.specs.declared.token.PlanWriter.{PlanWriter}
 
+-- Two bytes of head and 29 for each row.
 abbrev pub wholeBytes : ℕ → ℕ
 wholeBytes n = 2 + 29 * n
 
+-- Its layer is W throughout.
 abbrev pub refusal : Cause → Option ℕ → Fault
 refusal cause row = record { layer = Writer; cause = cause; row = row; bit = None }
 
@@ -54,6 +56,7 @@ periodChecks w t =
     check (not (commonUpTo hyperperiodLimit (w .hyperperiod .ticks ∷ t .period ∷ []))) (refusal HyperperiodTooLong (Some (w .next)))
     ∷ []
 
+-- In the order in which they are made.
 abbrev pub rowChecks : PlanWriter → Task → ℕ → List (Check Fault)
 rowChecks w t room = placeChecks w t room ++ (ruleChecks (inWriter (w .next)) t ++ periodChecks w t)
 

@@ -41,6 +41,7 @@ HeadOf b n reload = fieldsAt b 0 headWidths ≡ headValues 1 n reload 0
 abbrev pub RowHolds : List ℕ → ℕ → Task → Type 0
 RowHolds b i t = fieldsAt (rowBytes (body b) i) 0 rowWidths ≡ rowValues t 0
 
+-- Only the first two bytes changed.
 pub record HeadWritten (before after : List ℕ) (n reload : ℕ) : Type 0 where
   pub head : HeadOf after n reload
   pub rest : drop 2 after ≡ drop 2 before
@@ -62,6 +63,7 @@ pub record Wrote (w : PlanWriter) (b : List ℕ) (reload : ℕ) (ts : List Task)
   pub keeping : allOf lawful ts ≡ true
   pub repeating : IsLcm (w .hyperperiod .ticks) (periods ts)
 
+-- Whatever else stands in the buffer, and whoever holds it.
 abbrev pub ReadsBack : PlanWriter → ℕ → Type 0
 ReadsBack w n = (b : List ℕ) (reload : ℕ) (ts : List Task) → Wrote w b reload ts → admission (take n b) ≡ Ok (record { reload = reload; tasks = ts })
 
