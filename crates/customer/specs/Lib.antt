@@ -1,1 +1,2 @@
 pub mod Favourites
+pub mod FlatCosts

@@ -1,0 +1,3 @@
+mod Unchanged
+mod Bounds
+mod LineLaws

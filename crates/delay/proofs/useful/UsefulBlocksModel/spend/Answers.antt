@@ -1,0 +1,6 @@
+use mathlib.Core.Path.{refl}
+use Rattle.delay.proofs.Unchanged.{left-alone}
+use Rattle.delay.proofs.useful.UsefulBlocksModel.spend.Needs as need
+
+pub returns : need.returns
+returns c = record { same = refl; after = left-alone _ _ }

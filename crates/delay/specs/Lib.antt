@@ -1,0 +1,5 @@
+pub mod Marks
+pub mod Profiles
+pub mod Figures
+pub mod Lines
+pub mod Models
