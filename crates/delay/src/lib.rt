@@ -16,6 +16,8 @@ pub use fixed::FixedDelayModel;
 pub use loaded::LoadedBlocks;
 pub use loaded::LoadedBlocksModel;
 pub use mark::Mark;
+pub use mark::MarkEq;
+pub use mark::MarkPartialEq;
 pub use model::DelayModel;
 pub use none::NoDelay;
 pub use none::NoDelayModel;
