@@ -7,7 +7,7 @@
 --     Late S                a test for lateness at an instant and a state
 --     LateRepeats m late    lateness repeats with the rules
 --     OnTimeTo m late n     nothing is late up to and including instant n
---     NeverLate S           equal samples prove that nothing is ever late
+--     NeverLate S           equal samples prove that nothing is ever late, where lateness repeats
 use mathlib.Core.Bool.{Bool}
 use mathlib.Core.List.{List, List·Memᴰ}
 use mathlib.Core.Path.{_≡_}
@@ -57,7 +57,7 @@ LateRepeats {S} m late = (t : ℕ) (s : S) → m .from < t → T (late (t + m .p
 abbrev pub OnTimeTo : {S : Type 0} → Machine S → Late S → ℕ → Type 0
 OnTimeTo m late n = (t : ℕ) → t ≤ n → T (late t (state m t)) → ⊥
 
--- If sample k equals an earlier sample, and nothing is late up to and including the instant of sample k, then nothing is ever late.
+-- Where lateness repeats: if sample k equals an earlier sample, and nothing is late up to and including the instant of sample k, then nothing is ever late.
 abbrev pub NeverLate : Type 0 → Type 0
 NeverLate S =
     (m : Machine S) (late : Late S) → LateRepeats m late

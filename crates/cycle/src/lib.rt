@@ -31,6 +31,7 @@ pub fn found_soon<S>() -> u8
 }
 
 /// If a sample equals an earlier one, and nothing is late up to and including its instant, then nothing is ever late.
+/// This is for lateness that repeats with the ticks (`LateRepeats`), which the caller has to show.
 pub fn never_late<S>() -> u8
     ensures value { λ r. ⌜ r ≡ 0 ⌝ }
     ensures theorem { λ _. ⌜ NeverLate S ⌝ }
