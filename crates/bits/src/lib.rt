@@ -1,5 +1,7 @@
 //! Bit-packed fields, most significant bit first.
 
+#![tactic(auto)]
+
 pub mod reader;
 pub mod writer;
 

@@ -1,6 +1,8 @@
 //! The test program: a line of standard input is a name, a blank and an input in hexadecimal digits.
 //! It prints each name, and after it the report of its input.
 
+#![tactic(auto)]
+
 ghost use Rattle.std.specs.Prelude.{◌<◌, IfSome};
 
 use anyhow::anyhow;

@@ -1,5 +1,7 @@
 //! What a camera maker writes to bring a dispatch rule of his own.
 
+#![tactic(auto)]
+
 mod favourite;
 mod flat_cost;
 

@@ -2,6 +2,8 @@
 //!
 //! A function whose contract is a theorem computes nothing: it returns 0, and a caller has the theorem for its own type of states.
 
+#![tactic(auto)]
+
 ghost use Rattle.std.specs.Prelude.{◌≡◌};
 ghost use Rattle.cycle.specs.Comparisons.{next_compared};
 ghost use Rattle.cycle.specs.Theorems.{EqualFutures, ComparedRight, FoundSoon, NeverLate};

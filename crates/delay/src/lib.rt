@@ -1,5 +1,7 @@
 //! Delay models: what a job pays when it goes on after a preemption.
 
+#![tactic(auto)]
+
 mod figures;
 mod fixed;
 mod lines;

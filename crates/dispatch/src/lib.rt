@@ -1,5 +1,7 @@
 //! Dispatch policies: which task has the core next.
 
+#![tactic(auto)]
+
 mod candidates;
 mod earliest_deadline;
 mod fixed_priority;

@@ -1,5 +1,7 @@
 //! A refusal: the layer in which it arose, its cause, and the place that it names.
 
+#![tactic(auto)]
+
 ghost use Rattle.std.specs.Prelude.{◌≡◌};
 ghost use Rattle.fault.specs.Numbers.{letter_of, number_of};
 

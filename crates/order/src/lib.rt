@@ -1,5 +1,7 @@
 //! The order line, with which every input begins: three letters and a newline.
 
+#![tactic(auto)]
+
 ghost use Rattle.std.specs.Prelude.{◌≡◌, drop, Ok, Err, MatchResult};
 ghost use Rattle.order.specs.Orders.{letter_at, unknown_letter, dispatch_of, preemption_of, delay_of, line_end_of, order_of};
 

@@ -1,5 +1,7 @@
 //! Plans.
 
+#![tactic(auto)]
+
 mod admitted;
 mod blocks;
 mod heads;

@@ -1,5 +1,7 @@
 //! The planner: reads an order line and a plan from standard input, and writes their report.
 
+#![tactic(auto)]
+
 use report::{LONGEST_REPORT, report_on};
 use std::io;
 use std::io::{Read, Write};

@@ -1,5 +1,7 @@
 //! From an input to its report: the order line, admission, and the text of the answer.
 
+#![tactic(auto)]
+
 mod buffer;
 mod decimal;
 mod line;

@@ -1,5 +1,7 @@
 //! The schedule without end, and one tick of it in code.
 
+#![tactic(auto)]
+
 mod calendar;
 mod jobs;
 mod rows;

@@ -1,5 +1,7 @@
 //! Writing a plan row by row into a buffer of one's own.
 
+#![tactic(auto)]
+
 mod fill;
 mod token;
 
