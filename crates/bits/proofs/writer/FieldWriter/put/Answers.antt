@@ -14,4 +14,4 @@ loop-i-preserved c =
     let within : p < 8 * length bytes = omega (arith, c.loop-i.invariant.0.size) in
     let next = next_bit c.args.value c.args.width c.loop-i.i (omega arith) in
     let last = last_bit (c.args.value / 2 ^ (c.args.width - 1 - c.loop-i.i)) in
-    (written_more c.args.self.now.out.now bytes at c.loop-i.i _ _ p c.with-bit.result _ c.loop-i.invariant.0 here within c.with-bit.ensures (omega arith), c.loop-i.invariant.1, c.loop-i.invariant.2)
+    (written_more c.args.self.now.out.now bytes at c.loop-i.i _ _ p c.with_bit.result _ c.loop-i.invariant.0 here within c.with_bit.ensures (omega arith), c.loop-i.invariant.1, c.loop-i.invariant.2)
