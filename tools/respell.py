@@ -16,9 +16,14 @@ import sys
 LETTER = r"\w'₀₁₂₃₄₅₆₇₈₉′-"
 NAME = re.compile(rf"[^\W\d][{LETTER}]*")
 TOP = re.compile(rf"^(?:(?:abbrev|unfoldable|pub|data|record|ruleset)\s+)*([^\W\d][{LETTER}]*)\s*(?:[({{][^)}}]*[)}}]\s*)*:\s")
+WITHIN = re.compile(rf"^\s+(?:(?:abbrev|unfoldable|pub)\s+)+([^\W\d][{LETTER}]*)\s*(?:[({{][^)}}]*[)}}]\s*)*:\s")
+SECTION = re.compile(rf"(?m)^( +)([^\W\d][{LETTER}]*)\s:\s")
 FIELD = re.compile(rf"^\s+(?:pub\s+)?([^\W\d][{LETTER}]*)\s*:\s")
 ROW = re.compile(r"^--     (\S.*?)(\s{2,})(\S.*)$")
 RECORD = re.compile(r"^(?:pub\s+)?record\s")
+
+# lemmas that would fall together with the function that they speak of
+APART = {"row-bytes": "row_bytes_lem", "head-values": "head_values_lem"}
 
 # what port.py had respelled already, since a library has a name of the same spelling; the pages still had the old ones
 EARLIER = {old: re.sub(r"([A-Z])", lambda m: "_" + m.group(1).lower(), old) for old in """
@@ -35,16 +40,22 @@ def files(ends):
 
 
 def respelled(name):
+    if name in APART:
+        return APART[name]
     if name[0].isupper():
         return name.replace("-", "").replace("′", "'")
     return re.sub(r"(?<=[a-z0-9])([A-Z])", lambda m: "_" + m.group(1).lower(), name).replace("-", "_").replace("′", "'")
 
 
 def declared(path):
-    """The names that a file of specs/ or proofs/ declares at its left margin, and the fields of its records."""
+    """The names that a file of specs/ or proofs/ declares at its left margin or in a section, and the fields of its records."""
+    text = open(path, encoding="utf-8").read()
+    for m in SECTION.finditer(text):
+        if re.search(rf"(?m)^{m.group(1)}{re.escape(m.group(2))}(?![{LETTER}])[^:\n]*=", text):
+            yield m.group(2)
     of_answers = os.path.basename(path) in ("Answers.antt", "Invariants.antt", "Proof.antt")
     inside = False
-    for line in open(path, encoding="utf-8"):
+    for line in text.split("\n"):
         if line.startswith(("use ", "--", "pub mod ", "mod ", "pub use ")):
             continue
         if not line.startswith(" "):
@@ -52,8 +63,9 @@ def declared(path):
             m = TOP.match(line)
             if m and not (of_answers and re.search(r":\s*(goal|need|Goals)\.", line)):
                 yield m.group(1)
-        elif inside:
-            m = FIELD.match(line)
+        else:
+            # a field of a record, or a lemma in a section that shares its variables
+            m = FIELD.match(line) if inside else WITHIN.match(line)
             if m:
                 yield m.group(1)
 
@@ -127,7 +139,7 @@ def turned_rt(text, names):
 
 def main(argv):
     names = renamings()
-    if argv != ["--plan"]:
+    if argv != ["--plan"] and os.path.isdir("crates/log"):
         rename_crate("log", "row_log")
     taken = set()
     for path in files((".antt", ".rt")):

@@ -68,8 +68,8 @@ module _ (urgent : ℕ → ℕ → Bool) (rows : List Candidate) where
     itself : (i : ℕ) → urgent i i ≡ true
     itself i = ⊎_elim (λ e. e) (λ e. e) (or_cases (urgent i i) (urgent i i) (total i i))
 
-    pub best-more : (n : ℕ) (o : Option ℕ) → Best n o → Best (n + 1) (better urgent rows o n)
-    best-more n None h = at (live_at rows n) refl where
+    pub best_more : (n : ℕ) (o : Option ℕ) → Best n o → Best (n + 1) (better urgent rows o n)
+    best_more n None h = at (live_at rows n) refl where
       at : (b : Bool) → live_at rows n ≡ b → Best (n + 1) (cond b (Some n) None)
       at true e = (
         omega arith,
@@ -78,7 +78,7 @@ module _ (urgent : ℕ → ℕ → Bool) (rows : List Candidate) where
         λ k l live. absurd (both_ways _ (h k l) live),
       )
       at false e = λ k l. one_more n k (λ z. live_at rows z ≡ false) l h e
-    best-more n (Some b) h = at (live_at rows n) refl (urgent b n) refl where
+    best_more n (Some b) h = at (live_at rows n) refl (urgent b n) refl where
       at : (v : Bool) → live_at rows n ≡ v → (u : Bool) → urgent b n ≡ u → Best (n + 1) (cond v (cond u (Some b) (Some n)) (Some b))
       at true e true u = (
         (let le : b < n + 1 = omega (arith, h.0) in le),
@@ -100,10 +100,10 @@ module _ (urgent : ℕ → ℕ → Bool) (rows : List Candidate) where
         h.3,
       )
 
-  pub best-is : (o : Option ℕ) → Best (length rows) o → most_urgent urgent rows ≡ o
+  pub best_is : (o : Option ℕ) → Best (length rows) o → most_urgent urgent rows ≡ o
   unfolding most_urgent
-  best-is None h = first_none (length rows) _ (λ k l. and_left (live_at rows k) _ (h k l))
-  best-is (Some b) h =
+  best_is None h = first_none (length rows) _ (λ k l. and_left (live_at rows k) _ (h k l))
+  best_is (Some b) h =
       first_some (length rows) b _ h.0
       (and_from _ _ h.1
       (every_from (length rows) _

@@ -76,8 +76,8 @@ module _ (work : ℕ) (ticks delays more later : ℕ → ℕ) (n : ℕ) (s : Slo
     (counts : (m : ℕ) → more m ≡ ticks m + cond (eqb (n - 1) m) 1 0)
     (adds : (m : ℕ) → later m ≡ delays m + cond (eqb (n - 1) m) x 0)
     (a : Account work ticks delays n s d) where
-  account-paid : Paid work more later (n - 1) w (d + x)
-  account-paid =
+  account_paid : Paid work more later (n - 1) w (d + x)
+  account_paid =
       let more-is : more (n - 1) ≡ ticks (n - 1) + 1 = counts (n - 1) ∙ rw (eq-eqb (n - 1) (n - 1) refl) in
       let later-is : later (n - 1) ≡ delays (n - 1) + x = adds (n - 1) ∙ rw (eq-eqb (n - 1) (n - 1) refl) in
       let tick = one_tick (ticks (n - 1)) (work + d) s.left s.owed x w.left w.owed (a.some lives) worked.left worked.owed (a.whole lives) in
@@ -94,8 +94,8 @@ module _ (work : ℕ) (ticks delays more later : ℕ → ℕ) (n : ℕ) (s : Slo
       (counts m ∙ rw other (omega (arith, (a.ahead m l).0)), adds m ∙ rw other (omega (arith, (a.ahead m l).1)))
 
   -- a job that goes on has an account that goes on, and one that finishes leaves no live job behind.
-  pub account-work : Account work more later n (cond (eqb w.left 0) vacant w) (d + x)
-  account-work = go (eqb w.left 0) refl
+  pub account_work : Account work more later n (cond (eqb w.left 0) vacant w) (d + x)
+  account_work = go (eqb w.left 0) refl
     where
       go : (b : Bool) → eqb w.left 0 ≡ b → Account work more later n (cond b vacant w) (d + x)
       go true e =
@@ -107,7 +107,7 @@ module _ (work : ℕ) (ticks delays more later : ℕ → ℕ) (n : ℕ) (s : Slo
             told = λ h. absurd (false≢true h);
           }
       go false e =
-          let p = account-paid in
+          let p = account_paid in
           record {
             ahead = others;
             known = λ _. a.known lives;
@@ -117,5 +117,5 @@ module _ (work : ℕ) (ticks delays more later : ℕ → ℕ) (n : ℕ) (s : Slo
           }
 
   -- a job that finishes has had its work and its delays.
-  pub account-closed : w.left ≡ 0 → (more (n - 1) ≡ work + (d + x)) × (later (n - 1) ≡ d + x)
-  account-closed e = let p = account-paid in (omega (arith, p.whole, p.last e), p.told)
+  pub account_closed : w.left ≡ 0 → (more (n - 1) ≡ work + (d + x)) × (later (n - 1) ≡ d + x)
+  account_closed e = let p = account_paid in (omega (arith, p.whole, p.last e), p.told)

@@ -12,8 +12,8 @@ use Rattle.schedule.specs.declared.rows.JobRow.{JobRow}
 use Rattle.schedule.specs.declared.slots.Slot.{Slot}
 use Rattle.laws.specs.Service.{job_in, on_core, serves}
 use Rattle.laws.specs.Settings.{Admitted}
-use Rattle.laws.proofs.Ledgers.{ledger-entry}
-use Rattle.laws.proofs.Releases.{next_counted, slot-entered}
+use Rattle.laws.proofs.Ledgers.{ledger_entry}
+use Rattle.laws.proofs.Releases.{next_counted, slot_entered}
 use Rattle.laws.proofs.Turns.{entry, named_live, serves_tells, turn, works}
 
 -- The row that tick t writes down if the job of task j gets its last tick in it.
@@ -67,49 +67,49 @@ over_release k m n s false h = h
 over_release k m n s true h = record { past = omega (arith, h.past); later = λ _. omega (arith, h.past) }
 
 module _ (c : Setting) (a : Admitted c) (live : NamesLive c.rule) (i : ℕ) (known : i < length c.tasks) where
-  over-entered : (m u : ℕ) → OverIn i m (moment c u) → OverIn i m (entry c u)
-  over-entered m u h =
-      rw (next_counted c a i known u, slot-entered c a i known u)
+  over_entered : (m u : ℕ) → OverIn i m (moment c u) → OverIn i m (entry c u)
+  over_entered m u h =
+      rw (next_counted c a i known u, slot_entered c a i known u)
       (over_release (task_of c i) m (next_of (moment c u) i) (slot_of (state_at c u) i) (due u (task_of c i) (next_of (moment c u) i)) h)
 
-  over-step : (m u : ℕ) → OverIn i m (moment c u) → OverIn i m (moment c (suc u))
+  over_step : (m u : ℕ) → OverIn i m (moment c u) → OverIn i m (moment c (suc u))
   unfolding moment tick
-  over-step m u h =
-      let g = over-entered m u h in
+  over_step m u h =
+      let g = over_entered m u h in
       record {
         past = g.past;
         later = λ l. ⊎_elim (λ r. g.later (ap (λ (s : Slot). s.live) (sym r.slot) ∙ l)) (λ e. g.later (named_live c live u i e).1) (turn c u i);
       }
 
-  over-from : (m f u : ℕ) → f ≤ u → OverIn i m (moment c f) → OverIn i m (moment c u)
-  over-from m f zero l h = let e : f ≡ 0 = omega arith in rw e at h
-  over-from m f (suc u) l h =
+  over_from : (m f u : ℕ) → f ≤ u → OverIn i m (moment c f) → OverIn i m (moment c u)
+  over_from m f zero l h = let e : f ≡ 0 = omega arith in rw e at h
+  over_from m f (suc u) l h =
       ⊎_elim
       (λ (e : f ≡ suc u). rw e at h)
-      (λ (below : f < suc u). over-step m u (over-from m f u (omega arith) h))
+      (λ (below : f < suc u). over_step m u (over_from m f u (omega arith) h))
       (eq-or-lt_of_le l)
 
   -- a tick serves the live job only
-  over-unserved : (m u : ℕ) → OverIn i m (moment c u) → serves c u i m ≡ true → ⊥
-  over-unserved m u h s =
+  over_unserved : (m u : ℕ) → OverIn i m (moment c u) → serves c u i m ≡ true → ⊥
+  over_unserved m u h s =
       let it = serves_tells c u i m s in
-      omega (arith, (over-entered m u h).later (named_live c live u i it.0).1, it.1)
+      omega (arith, (over_entered m u h).later (named_live c live u i it.0).1, it.1)
 
   -- a job that gets its last tick leaves the slot
-  over-start : (t : ℕ) → on_core c t ≡ Some i → finishes c i (entry c t).state ≡ true → OverIn i (job_in c t i) (moment c (suc t))
+  over_start : (t : ℕ) → on_core c t ≡ Some i → finishes c i (entry c t).state ≡ true → OverIn i (job_in c t i) (moment c (suc t))
   unfolding moment tick
-  over-start t e f =
+  over_start t e f =
       let lives = (named_live c live t i e).1 in
       let gone = (works c a t i known e).slot ∙ cond-true (finishes c i (entry c t).state) vacant _ f in
       record {
-        past = omega (arith, (ledger-entry c a live i known t).known lives);
+        past = omega (arith, (ledger_entry c a live i known t).known lives);
         later = λ l. absurd (false≢true (ap (λ (s : Slot). s.live) (sym gone) ∙ l));
       }
 
   -- no tick after the last one serves the job
-  pub served-before : (t : ℕ) → on_core c t ≡ Some i → finishes c i (entry c t).state ≡ true → (u : ℕ) → serves c u i (job_in c t i) ≡ true → u < t + 1
-  served-before t e f u s =
+  pub served_before : (t : ℕ) → on_core c t ≡ Some i → finishes c i (entry c t).state ≡ true → (u : ℕ) → serves c u i (job_in c t i) ≡ true → u < t + 1
+  served_before t e f u s =
       ⊎_elim
       (λ below. below)
-      (λ above. absurd (over-unserved (job_in c t i) u (over-from (job_in c t i) (suc t) u (omega arith) (over-start t e f)) s))
+      (λ above. absurd (over_unserved (job_in c t i) u (over_from (job_in c t i) (suc t) u (omega arith) (over_start t e f)) s))
       (cases_lt u (t + 1))

@@ -7,9 +7,9 @@ use Rattle.schedule.specs.Schedules.{OnTimeTo, moment, state_at}
 use Rattle.schedule.specs.States.{Setting, next_of, slot_of, task_of}
 use Rattle.laws.specs.Service.{releases_in}
 use Rattle.laws.specs.Settings.{Admitted}
-use Rattle.laws.proofs.Deadlines.{slot-vacated}
+use Rattle.laws.proofs.Deadlines.{slot_vacated}
 use Rattle.laws.proofs.Counts.{moment_next, next_released}
-use Rattle.laws.proofs.Releases.{timed-task}
+use Rattle.laws.proofs.Releases.{timed_task}
 
 -- What the test says.
 record Released (c : Setting) (t i m : ℕ) : Type 0 where
@@ -32,7 +32,7 @@ released_then c t i m h =
 then_released : (c : Setting) → Admitted c → (t i m : ℕ) → i < length c.tasks → t ≡ release (task_of c i) m → releases_in c t i m ≡ true
 unfolding releases_in
 then_released c a t i m known e =
-    let timed = timed-task c a i known in
+    let timed = timed_task c a i known in
     let is-next = next_released (task_of c i) t (next_of (moment c t) i) m (omega (arith, timed.works, timed.able, timed.constrained)) (moment_next c t i a known) e in
     and_from (ltb i (length c.tasks)) _ (lt-ltb i (length c.tasks) known)
     (and_from (due t (task_of c i) (next_of (moment c t) i)) (eqb (next_of (moment c t) i) m)
@@ -48,4 +48,4 @@ releases_apart c t u i m p q = omega (arith, released_then c t i m p, released_t
 pub release_vacated : (c : Setting) → Admitted c → NamesLive c.rule → (t i m : ℕ) → OnTimeTo c t → releases_in c t i m ≡ true → (slot_of (state_at c t) i).live ≡ false
 release_vacated c a live t i m on h =
     let r = released_tells c t i m h in
-    slot-vacated c a live i r.known t on r.is_due
+    slot_vacated c a live i r.known t on r.is_due

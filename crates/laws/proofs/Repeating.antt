@@ -10,7 +10,7 @@ use Rattle.laws.specs.Repetition.{Repetition, placed}
 use Rattle.laws.specs.Settings.{Admitted}
 use Rattle.laws.proofs.Counts.{next_by_instant, number_at}
 use Rattle.laws.proofs.Machines.{machine, machine_samples, machine_state, state_onward}
-use Rattle.laws.proofs.Shifts.{doing_same, late-same}
+use Rattle.laws.proofs.Shifts.{doing_same, late_same}
 
 pub equal_futures : (c : Setting) → Admitted c → (i j : ℕ) → sample c i ≡ sample c j
     → (x : ℕ) → state_at c (from c + i * c.hyperperiod + x) ≡ state_at c (from c + j * c.hyperperiod + x)
@@ -31,7 +31,7 @@ late_before : (c : Setting) → Admitted c → (t : ℕ) (s : State) → from c 
 late_before c a t s o (i, e) =
     let p = and_parts (ltb i (length c.tasks)) (late_job (t + c.hyperperiod) (task_of c i) (number_at c (t + c.hyperperiod) i) (slot_of s i)) e in
     let l : i < length c.tasks = ltb-true i (length c.tasks) p.0 in
-    (i, and_from _ _ p.0 (sym (late-same c a i l t o (slot_of s i)) ∙ p.1))
+    (i, and_from _ _ p.0 (sym (late_same c a i l t o (slot_of s i)) ∙ p.1))
 
 pub never_late : (c : Setting) → Admitted c → (i k : ℕ) → i < k → sample c k ≡ sample c i → OnTimeTo c (from c + k * c.hyperperiod) → NeverLate c
 never_late c a i k h e clean t j = ⊎_elim (λ l. absurd (none t (j, sym (late_placed c t j) ∙ l))) (λ n. n) (cases_Bool (late c t j))

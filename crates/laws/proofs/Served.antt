@@ -9,11 +9,11 @@ use Rattle.schedule.specs.Ticks.{tick}
 use Rattle.schedule.specs.declared.rows.JobRow.{JobRow}
 use Rattle.laws.specs.Service.{Service, ServedWhole, job_in, on_core, serves}
 use Rattle.laws.specs.Settings.{Admitted}
-use Rattle.laws.proofs.Ledgers.{ledger-closed, ledger-entry}
+use Rattle.laws.proofs.Ledgers.{ledger_closed, ledger_entry}
 use Rattle.laws.proofs.Counts.{moment_next}
 use Rattle.laws.proofs.Deadlines.{finished_in_time}
 use Rattle.laws.proofs.Displaced.{displaced_by_switch}
-use Rattle.laws.proofs.Finishes.{row_tells, row_of, served-before}
+use Rattle.laws.proofs.Finishes.{row_tells, row_of, served_before}
 use Rattle.laws.proofs.ReleaseTicks.{release_vacated, releases_apart, releases_once}
 use Rattle.laws.proofs.Serving.{charged_own}
 use Rattle.laws.proofs.Sizes.{entry_sized}
@@ -29,41 +29,41 @@ served_alone c t i m j n p q =
 
 module _ (c : Setting) (a : Admitted c) (live : NamesLive c.rule) where
   -- the live job of a tick has been released
-  served-after : (t i m : ℕ) → serves c t i m ≡ true → release (task_of c i) m ≤ t
+  served_after : (t i m : ℕ) → serves c t i m ≡ true → release (task_of c i) m ≤ t
   unfolding moment tick
-  served-after t i m h =
+  served_after t i m h =
       let it = serves_tells c t i m h in
       let there = named_live c live t i it.0 in
-      let some = (ledger-entry c a live i there.0 t).known there.1 in
+      let some = (ledger_entry c a live i there.0 t).known there.1 in
       let past : release (task_of c i) (job_in c t i) < suc t = (moment_next c (suc t) i a there.0).past some in
       let here : release (task_of c i) m < suc t = rw it.1 at past in
       omega arith
 
-  served-row : (t j : ℕ) → on_core c t ≡ Some j → finishes c j (entry c t).state ≡ true → ServedWhole c t (row_of c t j)
-  served-row t j e f =
+  served_row : (t j : ℕ) → on_core c t ≡ Some j → finishes c j (entry c t).state ≡ true → ServedWhole c t (row_of c t j)
+  served_row t j e f =
       let known = (named_live c live t j e).0 in
-      let closed = ledger-closed c a live j known t e f in
+      let closed = ledger_closed c a live j known t e f in
       let charge = charged_own c j (entry c t) (omega (arith, a.few, (entry_sized c t).delays)) in
       record {
         known = known;
         released = refl;
         finished = refl;
-        within = λ u s. (served-after u j (job_in c t j) s, served-before c a live j known t e f u s);
+        within = λ u s. (served_after u j (job_in c t j) s, served_before c a live j known t e f u s);
         alone = λ u i m p q. served_alone c u i m j (job_in c t j) p q;
         ticks = rw (add-one, charge) closed.0;
         delays = rw (add-one, charge) closed.1;
       }
 
-  pub served-whole : (t : ℕ) (row : JobRow) → job_row c t (moment c t) ≡ Some row → ServedWhole c t row
-  served-whole t row h =
+  pub served_whole : (t : ℕ) (row : JobRow) → job_row c t (moment c t) ≡ Some row → ServedWhole c t row
+  served_whole t row h =
       let f = row_tells c t row h in
       let P : JobRow → Type 0 = ServedWhole c t in
-      subst P f.is (served-row t f.task f.core f.last)
+      subst P f.is (served_row t f.task f.core f.last)
 
 pub service : (c : Setting) → Admitted c → NamesLive c.rule → Service c
 service c a live =
     record {
-      served = served-whole c a live;
+      served = served_whole c a live;
       in_time = finished_in_time c a live;
       releases = releases_once c a;
       apart = releases_apart c;

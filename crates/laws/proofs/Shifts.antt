@@ -41,19 +41,19 @@ late_later k t n q s l =
 
 -- Of the tasks of an admitted plan: from `from` on, the same one hyperperiod later.
 module _ (c : Setting) (a : Admitted c) (i : ℕ) (l : i < length c.tasks) where
-  due-same : (t : ℕ) → from c ≤ t → due (t + c.hyperperiod) (task_of c i) (number_at c (t + c.hyperperiod) i) ≡ due t (task_of c i) (number_at c t i)
-  due-same t o =
+  due_same : (t : ℕ) → from c ≤ t → due (t + c.hyperperiod) (task_of c i) (number_at c (t + c.hyperperiod) i) ≡ due t (task_of c i) (number_at c t i)
+  due_same t o =
       let p = planned c a i l in
       ap (due (t + c.hyperperiod) (task_of c i)) (number_later c t i a l (omega (arith, p.reached)))
       ∙ (ap (λ (h : ℕ). due (t + h) (task_of c i) (number_at c t i + p.turns)) p.whole ∙ due_later (task_of c i) t (number_at c t i) p.turns)
 
-  entered-same : (t : ℕ) → from c ≤ t → (s : Slot)
+  entered_same : (t : ℕ) → from c ≤ t → (s : Slot)
       → entered (t + c.hyperperiod) (task_of c i) (number_at c (t + c.hyperperiod) i) s ≡ entered t (task_of c i) (number_at c t i) s
-  entered-same t o s = ap (λ (b : Bool). cond b (fresh (task_of c i)) s) (due-same t o)
+  entered_same t o s = ap (λ (b : Bool). cond b (fresh (task_of c i)) s) (due_same t o)
 
-  shown-same : (t : ℕ) → from c ≤ t → (s : Slot)
+  shown_same : (t : ℕ) → from c ≤ t → (s : Slot)
       → shown (t + c.hyperperiod) (task_of c i) (number_at c (suc (t + c.hyperperiod)) i) s ≡ shown t (task_of c i) (number_at c (suc t) i) s
-  shown-same t o s =
+  shown_same t o s =
       let p = planned c a i l in
       let after : suc (t + c.hyperperiod) ≡ suc t + c.hyperperiod = omega arith in
       ap (λ (u : ℕ). shown (t + c.hyperperiod) (task_of c i) (number_at c u i) s) after
@@ -62,9 +62,9 @@ module _ (c : Setting) (a : Admitted c) (i : ℕ) (l : i < length c.tasks) where
       ∙ shown_later (task_of c i) t (number_at c (suc t) i) p.turns s (number_positive c (suc t) i a l (omega (arith, p.reached)))))
 
   -- before the releases of its instant, so the first one has to be over
-  pub late-same : (t : ℕ) → from c < t → (s : Slot)
+  pub late_same : (t : ℕ) → from c < t → (s : Slot)
       → late_job (t + c.hyperperiod) (task_of c i) (number_at c (t + c.hyperperiod) i) s ≡ late_job t (task_of c i) (number_at c t i) s
-  late-same t o s =
+  late_same t o s =
       let p = planned c a i l in
       ap (λ (n : ℕ). late_job (t + c.hyperperiod) (task_of c i) n s) (number_later c t i a l (omega (arith, p.reached)))
       ∙ (ap (λ (h : ℕ). late_job (t + h) (task_of c i) (number_at c t i + p.turns) s) p.whole
@@ -91,7 +91,7 @@ entered_all_same c a t o ss =
     (λ i s. entered (t + c.hyperperiod) (task_of c i) (number_at c (t + c.hyperperiod) i) s)
     (λ i s. entered t (task_of c i) (number_at c t i) s)
     ss
-    (λ i l s. entered-same c a i l t o s)
+    (λ i l s. entered_same c a i l t o s)
 
 shown_all_same : (c : Setting) → Admitted c → (t : ℕ) → from c ≤ t → (ss : List Slot) → shown_all c (t + c.hyperperiod) ss ≡ shown_all c t ss
 shown_all_same c a t o ss =
@@ -99,7 +99,7 @@ shown_all_same c a t o ss =
     (λ i. shown (t + c.hyperperiod) (task_of c i) (number_at c (suc (t + c.hyperperiod)) i) (get_or ss i vacant))
     (λ i. shown t (task_of c i) (number_at c (suc t) i) (get_or ss i vacant))
     0 (length c.tasks)
-    (λ i z l. shown-same c a i (omega arith) t o (get_or ss i vacant))
+    (λ i z l. shown_same c a i (omega arith) t o (get_or ss i vacant))
 
 pub doing_same : (c : Setting) → Admitted c → (t : ℕ) (s : State) → from c ≤ t → doing c (t + c.hyperperiod) s ≡ doing c t s
 doing_same c a t s o =

@@ -10,7 +10,7 @@ use Rattle.plan.specs.declared.tasks.Task.{Task}
 use Rattle.plan.specs.Admission.{Content, admission, byte_checks, checks, content_in, end_checks, head_checks, in_row, period_checks, row_checks, rows_checks}
 use Rattle.plan.specs.Checks.{first_wrong}
 use Rattle.plan.specs.Flaws.{rule_checks}
-use Rattle.plan.proofs.FirstWrong.{both-passed, none_left, unless-ok}
+use Rattle.plan.proofs.FirstWrong.{both_passed, none_left, unless_ok}
 use Rattle.plan.proofs.RowsLaws.{rows_split}
 use Rattle.plan.specs.Layout.{body, count_of, head_spare_of, head_values, head_widths, reload_of, revision_of, row_bytes, row_of, row_values, row_widths, rows_of, spare_of, task_of}
 
@@ -50,51 +50,51 @@ row_at bs i ws =
 
 -- What passing the checks says of the bytes.
 module _ (b : List ℕ) (n : ℕ) (passed : first_wrong (rows_checks b n) ≡ None) where
-  row-passed : (i : ℕ) → i < n → first_wrong (byte_checks b i) ≡ None
-  row-passed i h =
+  row_passed : (i : ℕ) → i < n → first_wrong (byte_checks b i) ≡ None
+  row_passed i h =
       let rest = flat_map (row_checks b) (range_with_len (i + 1) (n - (i + 1))) in
-      let others = (both-passed (rows_checks b i) (row_checks b i ++ rest) (sym (ap first_wrong (rows_split b i (n - (i + 1)) n (omega arith))) ∙ passed)).1 in
-      (both-passed (byte_checks b i) (rule_checks (in_row i) (row_of b i) ++ period_checks b i) (both-passed (row_checks b i) rest others).0).0
+      let others = (both_passed (rows_checks b i) (row_checks b i ++ rest) (sym (ap first_wrong (rows_split b i (n - (i + 1)) n (omega arith))) ∙ passed)).1 in
+      (both_passed (byte_checks b i) (rule_checks (in_row i) (row_of b i) ++ period_checks b i) (both_passed (row_checks b i) rest others).0).0
 
-  row-whole : (i : ℕ) → i < n → 29 * (i + 1) ≤ length b
-  row-whole i h =
-      let long = ltb-false _ _ (none_left (ltb (length (row_bytes b i)) 29) _ _ (row-passed i h)).0 in
+  row_whole : (i : ℕ) → i < n → 29 * (i + 1) ≤ length b
+  row_whole i h =
+      let long = ltb-false _ _ (none_left (ltb (length (row_bytes b i)) 29) _ _ (row_passed i h)).0 in
       omega (arith, length-drop (29 * i) b)
 
-  row-spare : (i : ℕ) → i < n → spare_of (row_bytes b i) ≡ 0
-  row-spare i h =
-      let after = (none_left (ltb (length (row_bytes b i)) 29) _ _ (row-passed i h)).1 in
+  row_spare : (i : ℕ) → i < n → spare_of (row_bytes b i) ≡ 0
+  row_spare i h =
+      let after = (none_left (ltb (length (row_bytes b i)) 29) _ _ (row_passed i h)).1 in
       eqb-true _ _ (not-false _ (none_left (not (eqb (spare_of (row_bytes b i)) 0)) _ _ after).0)
 
 -- An admitted byte string: its checks and its content.
 module _ (bs : List ℕ) (c : Content) (admitted : admission bs ≡ Ok c) where
-  all-checked : first_wrong (checks bs) ≡ None
-  all-checked = (unless-ok (first_wrong (checks bs)) c (content_in bs) (sym admitted)).0
+  all_checked : first_wrong (checks bs) ≡ None
+  all_checked = (unless_ok (first_wrong (checks bs)) c (content_in bs) (sym admitted)).0
 
-  content-is : c ≡ content_in bs
-  content-is = (unless-ok (first_wrong (checks bs)) c (content_in bs) (sym admitted)).1
+  content_is : c ≡ content_in bs
+  content_is = (unless_ok (first_wrong (checks bs)) c (content_in bs) (sym admitted)).1
 
-  head-checked : first_wrong (head_checks bs) ≡ None
-  head-checked = (both-passed (head_checks bs) (rows_checks (body bs) (count_of bs) ++ end_checks (body bs) (count_of bs)) all-checked).0
+  head_checked : first_wrong (head_checks bs) ≡ None
+  head_checked = (both_passed (head_checks bs) (rows_checks (body bs) (count_of bs) ++ end_checks (body bs) (count_of bs)) all_checked).0
 
-  rows-checked : first_wrong (rows_checks (body bs) (count_of bs)) ≡ None
-  rows-checked =
-      (both-passed (rows_checks (body bs) (count_of bs)) (end_checks (body bs) (count_of bs))
-      (both-passed (head_checks bs) (rows_checks (body bs) (count_of bs) ++ end_checks (body bs) (count_of bs)) all-checked).1).0
+  rows_checked : first_wrong (rows_checks (body bs) (count_of bs)) ≡ None
+  rows_checked =
+      (both_passed (rows_checks (body bs) (count_of bs)) (end_checks (body bs) (count_of bs))
+      (both_passed (head_checks bs) (rows_checks (body bs) (count_of bs) ++ end_checks (body bs) (count_of bs)) all_checked).1).0
 
-  plan-length : length bs ≡ 2 + 29 * count_of bs
-  plan-length =
-      let long = ltb-false _ _ (none_left (ltb (length bs) 2) _ _ head-checked).0 in
-      let whole = row-whole (body bs) (count_of bs) rows-checked (count_of bs - 1) (omega arith) in
+  plan_length : length bs ≡ 2 + 29 * count_of bs
+  plan_length =
+      let long = ltb-false _ _ (none_left (ltb (length bs) 2) _ _ head_checked).0 in
+      let whole = row_whole (body bs) (count_of bs) rows_checked (count_of bs - 1) (omega arith) in
       let ends =
-      (both-passed (rows_checks (body bs) (count_of bs)) (end_checks (body bs) (count_of bs))
-      (both-passed (head_checks bs) (rows_checks (body bs) (count_of bs) ++ end_checks (body bs) (count_of bs)) all-checked).1).1 in
+      (both_passed (rows_checks (body bs) (count_of bs)) (end_checks (body bs) (count_of bs))
+      (both_passed (head_checks bs) (rows_checks (body bs) (count_of bs) ++ end_checks (body bs) (count_of bs)) all_checked).1).1 in
       let short = ltb-false _ _ (none_left (ltb (29 * count_of bs) (length (body bs))) _ _ ends).0 in
       omega (arith, length-drop 2 bs)
 
-  head-values : fields_at bs 0 head_widths ≡ head_values 1 (count_of bs) (reload_of bs) 0
-  head-values =
-      let after = (none_left (ltb (length bs) 2) _ _ head-checked).1 in
+  head_values_lem : fields_at bs 0 head_widths ≡ head_values 1 (count_of bs) (reload_of bs) 0
+  head_values_lem =
+      let after = (none_left (ltb (length bs) 2) _ _ head_checked).1 in
       let revision : revision_of bs ≡ 1 = eqb-true _ _ (not-false _ (none_left (not (eqb (revision_of bs) 1)) _ _ after).0) in
       let spare : head_spare_of bs ≡ 0 = eqb-true _ _ (not-false _ (none_left (not (eqb (head_spare_of bs) 0)) _ _ (none_left (not (eqb (revision_of bs) 1)) _ _ after).1).0) in
       let count : spelled bs 4 4 ≡ count_of bs - 1 = omega arith in
@@ -102,11 +102,11 @@ module _ (bs : List ℕ) (c : Content) (admitted : admission bs ≡ Ok c) where
 
 -- Two byte strings that are admitted as the same plan.
 module _ (cs bs : List ℕ) (c : Content) (left : admission cs ≡ Ok c) (right : admission bs ≡ Ok c) where
-  same-content : content_in cs ≡ content_in bs
-  same-content = sym (content-is cs c left) ∙ content-is bs c right
+  same_content : content_in cs ≡ content_in bs
+  same_content = sym (content_is cs c left) ∙ content_is bs c right
 
   same_rows : rows_of (body cs) (count_of cs) ≡ rows_of (body bs) (count_of bs)
-  same_rows = ap (λ (z : Content). z.tasks) same-content
+  same_rows = ap (λ (z : Content). z.tasks) same_content
 
   same_count : count_of cs ≡ count_of bs
   same_count =
@@ -117,32 +117,32 @@ module _ (cs bs : List ℕ) (c : Content) (left : admission cs ≡ Ok c) (right 
       sym (get_or-map-range_with_len (row_of (body cs)) 0 (count_of cs) i i (task_of []) (omega (arith, same_count)) (omega arith))
       ∙ (ap (λ (z : List Task). get_or z i (task_of [])) same_rows ∙ get_or-map-range_with_len (row_of (body bs)) 0 (count_of bs) i i (task_of []) h (omega arith))
 
-  same-row-fields : (i : ℕ) → i < count_of bs → fields_at cs (16 + 232 * i) row_widths ≡ fields_at bs (16 + 232 * i) row_widths
-  same-row-fields i h =
-      let one = row-spare (body cs) (count_of cs) (rows-checked cs c left) i (omega (arith, same_count)) in
-      let two = row-spare (body bs) (count_of bs) (rows-checked bs c right) i h in
+  same_row_fields : (i : ℕ) → i < count_of bs → fields_at cs (16 + 232 * i) row_widths ≡ fields_at bs (16 + 232 * i) row_widths
+  same_row_fields i h =
+      let one = row_spare (body cs) (count_of cs) (rows_checked cs c left) i (omega (arith, same_count)) in
+      let two = row_spare (body bs) (count_of bs) (rows_checked bs c right) i h in
       sym (row_at cs i row_widths) ∙ (ap₂ row_values (same_row i h) (one ∙ sym two) ∙ row_at bs i row_widths)
 
-  same-head-fields : fields_at cs 0 head_widths ≡ fields_at bs 0 head_widths
-  same-head-fields =
-      head-values cs c left
-      ∙ (ap₂ (λ (n r : ℕ). head_values 1 n r 0) same_count (ap (λ (z : Content). z.reload) same-content) ∙ sym (head-values bs c right))
+  same_head_fields : fields_at cs 0 head_widths ≡ fields_at bs 0 head_widths
+  same_head_fields =
+      head_values_lem cs c left
+      ∙ (ap₂ (λ (n r : ℕ). head_values 1 n r 0) same_count (ap (λ (z : Content). z.reload) same_content) ∙ sym (head_values_lem bs c right))
 
   -- head and rows so far spell one number
   same_number : (k : ℕ) → k ≤ count_of bs → spelled cs 0 (16 + 232 * k) ≡ spelled bs 0 (16 + 232 * k)
-  same_number zero h = same_spelled_from_fields cs bs 0 head_widths same-head-fields
+  same_number zero h = same_spelled_from_fields cs bs 0 head_widths same_head_fields
   same_number (suc k) h =
       let more : 16 + 232 * suc k ≡ 16 + 232 * k + 232 = omega arith in
       let before = same_number k (omega arith) in
-      let row = same_spelled_from_fields cs bs (16 + 232 * k) row_widths (same-row-fields k (omega arith)) in
+      let row = same_spelled_from_fields cs bs (16 + 232 * k) row_widths (same_row_fields k (omega arith)) in
       let one = spelled_split cs 0 (16 + 232 * k) 232 in
       let two = spelled_split bs 0 (16 + 232 * k) 232 in
       let start : 0 + (16 + 232 * k) ≡ 16 + 232 * k = omega arith in
       cc
 
-  pub one-encoding : Bytes cs → Bytes bs → cs ≡ bs
-  one-encoding p q =
-      let size = plan-length cs c left in
-      let other = plan-length bs c right in
+  pub one_encoding : Bytes cs → Bytes bs → cs ≡ bs
+  one_encoding p q =
+      let size = plan_length cs c left in
+      let other = plan_length bs c right in
       let bits : 16 + 232 * count_of bs ≡ 8 * length cs = omega (arith, same_count) in
       same_bytes cs bs p q (omega (arith, same_count)) (subst (λ (z : ℕ). spelled cs 0 z ≡ spelled bs 0 z) bits (same_number (count_of bs) (omega arith)))

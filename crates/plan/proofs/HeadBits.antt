@@ -6,18 +6,18 @@ use Rattle.bits.proofs.Fields.{spelled_in_byte}
 use Rattle.bits.specs.Bits.{spelled}
 
 module _ (bs : List ℕ) where
-  pub revision-bits : get_or bs 0 0 < 2 ^ 8 → spelled bs 0 4 ≡ get_or bs 0 0 / 16
-  revision-bits h = spelled_in_byte bs 0 0 4 (omega arith) ∙ omega arith
+  pub revision_bits : get_or bs 0 0 < 2 ^ 8 → spelled bs 0 4 ≡ get_or bs 0 0 / 16
+  revision_bits h = spelled_in_byte bs 0 0 4 (omega arith) ∙ omega arith
 
   pub count_bits : spelled bs 4 4 ≡ bit_and (get_or bs 0 0) 15
   count_bits =
       let mask = and_mask (get_or bs 0 0) 4 in
       spelled_in_byte bs 0 4 4 (omega arith) ∙ omega arith
 
-  pub reload-bits : get_or bs 1 0 < 2 ^ 8 → spelled bs 8 6 ≡ get_or bs 1 0 / 4
-  reload-bits h = spelled_in_byte bs 1 0 6 (omega arith) ∙ omega arith
+  pub reload_bits : get_or bs 1 0 < 2 ^ 8 → spelled bs 8 6 ≡ get_or bs 1 0 / 4
+  reload_bits h = spelled_in_byte bs 1 0 6 (omega arith) ∙ omega arith
 
-  pub spare-bits : spelled bs 14 2 ≡ bit_and (get_or bs 1 0) 3
-  spare-bits =
+  pub spare_bits : spelled bs 14 2 ≡ bit_and (get_or bs 1 0) 3
+  spare_bits =
       let mask = and_mask (get_or bs 1 0) 2 in
       spelled_in_byte bs 1 6 2 (omega arith) ∙ omega arith

@@ -16,7 +16,7 @@ use Rattle.plan.specs.Layout.{task_of, spare_of, row_bytes, row_of, rows_of}
 use Rattle.plan.specs.Periods.{common_up_to, hyperperiod_limit, IsLcm, Joins}
 use Rattle.plan.specs.Rows.{RowAdmitted}
 use Rattle.plan.proofs.Commons.{lcm_push, common_found, common_joined}
-use Rattle.plan.proofs.FirstWrong.{none_left, passed-before, unless-ok}
+use Rattle.plan.proofs.FirstWrong.{none_left, passed_before, unless_ok}
 use Rattle.plan.specs.Tasks.{fits_row, lawful, zero_period, times_out_of_order, useful_not_evicting, periods}
 
 pub periods_more : (b : List ℕ) (i : ℕ) → periods (rows_of b (i + 1)) ≡ periods (rows_of b i) ++ ((row_of b i).period ∷ [])
@@ -45,48 +45,48 @@ lawful_from t fits k =
 module _ (b : List ℕ) (i : ℕ) (t : Task)
     (taken : Ok t ≡ unless (first_wrong (byte_checks b i)) (row_of b i))
     (kept : first_wrong (rule_checks (in_row i) t) ≡ None) where
-  row-spelled : t ≡ row_of b i
-  row-spelled = (unless-ok (first_wrong (byte_checks b i)) t (row_of b i) taken).1
+  row_spelled : t ≡ row_of b i
+  row_spelled = (unless_ok (first_wrong (byte_checks b i)) t (row_of b i) taken).1
 
-  row-bytes : first_wrong (byte_checks b i) ≡ None
-  row-bytes = (unless-ok (first_wrong (byte_checks b i)) t (row_of b i) taken).0
+  row_bytes_lem : first_wrong (byte_checks b i) ≡ None
+  row_bytes_lem = (unless_ok (first_wrong (byte_checks b i)) t (row_of b i) taken).0
 
-  row-rules : first_wrong (rule_checks (in_row i) (row_of b i)) ≡ None
-  row-rules = subst (λ (z : Task). first_wrong (rule_checks (in_row i) z) ≡ None) row-spelled kept
+  row_rules : first_wrong (rule_checks (in_row i) (row_of b i)) ≡ None
+  row_rules = subst (λ (z : Task). first_wrong (rule_checks (in_row i) z) ≡ None) row_spelled kept
 
-  row-whole : 29 * i ≤ length b → 29 * (i + 1) ≤ length b
-  row-whole h =
-      let long = ltb-false _ _ (none_left (ltb (length (row_bytes b i)) 29) _ _ row-bytes).0 in
+  row_whole : 29 * i ≤ length b → 29 * (i + 1) ≤ length b
+  row_whole h =
+      let long = ltb-false _ _ (none_left (ltb (length (row_bytes b i)) 29) _ _ row_bytes_lem).0 in
       omega (arith, length-drop (29 * i) b)
 
   row_lawful : lawful t ≡ true
-  row_lawful = subst (λ (z : Task). lawful z ≡ true) (sym row-spelled) (lawful_from (row_of b i) (spelled_fits (row_bytes b i)) (rules_kept (in_row i) (row_of b i) row-rules))
+  row_lawful = subst (λ (z : Task). lawful z ≡ true) (sym row_spelled) (lawful_from (row_of b i) (spelled_fits (row_bytes b i)) (rules_kept (in_row i) (row_of b i) row_rules))
 
-  row-checked : first_wrong (row_checks b i) ≡ first_wrong (period_checks b i)
-  row-checked =
-      passed-before (byte_checks b i) (rule_checks (in_row i) (row_of b i) ++ period_checks b i) row-bytes
-      ∙ passed-before (rule_checks (in_row i) (row_of b i)) (period_checks b i) row-rules
+  row_checked : first_wrong (row_checks b i) ≡ first_wrong (period_checks b i)
+  row_checked =
+      passed_before (byte_checks b i) (rule_checks (in_row i) (row_of b i) ++ period_checks b i) row_bytes_lem
+      ∙ passed_before (rule_checks (in_row i) (row_of b i)) (period_checks b i) row_rules
 
   -- the periods up to this row are those before it and its own
-  row-periods : periods (rows_of b i) ++ (t.period ∷ []) ≡ periods (rows_of b (i + 1))
-  row-periods = ap (λ (z : Task). periods (rows_of b i) ++ (z.period ∷ [])) row-spelled ∙ sym (periods_more b i)
+  row_periods : periods (rows_of b i) ++ (t.period ∷ []) ≡ periods (rows_of b (i + 1))
+  row_periods = ap (λ (z : Task). periods (rows_of b i) ++ (z.period ∷ [])) row_spelled ∙ sym (periods_more b i)
 
   module _ (h : ℕ) (before : IsLcm h (periods (rows_of b i))) where
-    pub row-admitted : (n : ℕ) → Joins n h t.period → 29 * i ≤ length b → n ≤ hyperperiod_limit → RowAdmitted b i t n
-    row-admitted n joins long small =
-        let repeating = subst (IsLcm n) row-periods (lcm_push h t.period n (periods (rows_of b i)) before joins) in
+    pub row_admitted : (n : ℕ) → Joins n h t.period → 29 * i ≤ length b → n ≤ hyperperiod_limit → RowAdmitted b i t n
+    row_admitted n joins long small =
+        let repeating = subst (IsLcm n) row_periods (lcm_push h t.period n (periods (rows_of b i)) before joins) in
         let found = common_found hyperperiod_limit n (periods (rows_of b (i + 1))) joins.positive small repeating.1 in
         record {
-          passed = row-checked ∙ cond-false _ _ _ (not_from_true _ found);
-          whole = row-whole long;
-          spelled = row-spelled;
+          passed = row_checked ∙ cond-false _ _ _ (not_from_true _ found);
+          whole = row_whole long;
+          spelled = row_spelled;
           keeping = row_lawful;
           repeating = repeating;
           limited = small;
         }
 
-    pub row-too-long : common_up_to hyperperiod_limit (h ∷ t.period ∷ []) ≡ false → first_wrong (row_checks b i) ≡ Some (fault Plan HyperperiodTooLong (Some i) None)
-    row-too-long none =
+    pub row_too_long : common_up_to hyperperiod_limit (h ∷ t.period ∷ []) ≡ false → first_wrong (row_checks b i) ≡ Some (fault Plan HyperperiodTooLong (Some i) None)
+    row_too_long none =
         let missing : common_up_to hyperperiod_limit (periods (rows_of b (i + 1))) ≡ false =
-        ap (common_up_to hyperperiod_limit) (sym row-periods) ∙ (sym (common_joined hyperperiod_limit h t.period (periods (rows_of b i)) before) ∙ none) in
-        row-checked ∙ cond-true _ _ _ (not_from_false _ missing)
+        ap (common_up_to hyperperiod_limit) (sym row_periods) ∙ (sym (common_joined hyperperiod_limit h t.period (periods (rows_of b i)) before) ∙ none) in
+        row_checked ∙ cond-true _ _ _ (not_from_false _ missing)

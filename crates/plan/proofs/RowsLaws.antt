@@ -13,7 +13,7 @@ use Rattle.plan.specs.Periods.{IsLcm}
 use Rattle.plan.specs.Rows.{RowAdmitted, RowsAdmitted}
 use Rattle.plan.specs.Tasks.{all_of, greatest, lawful, offsets, periods}
 use Rattle.plan.proofs.Commons.{lcm_none}
-use Rattle.plan.proofs.FirstWrong.{passed-before, wrong-before}
+use Rattle.plan.proofs.FirstWrong.{passed_before, wrong_before}
 
 joined_append : {X Y : Type 0} (f : X → List Y) (xs ys : List X) → flat_map f (xs ++ ys) ≡ flat_map f xs ++ flat_map f ys
 joined_append f [] ys = refl
@@ -39,12 +39,12 @@ pub row_stops : (b : List ℕ) (i n : ℕ) (f : Fault) → i < n → first_wrong
 row_stops b i n f h p w =
     let rest = flat_map (row_checks b) (range_with_len (i + 1) (n - (i + 1))) in
     ap first_wrong (rows_split b i (n - (i + 1)) n (omega arith))
-    ∙ (passed-before (rows_checks b i) (row_checks b i ++ rest) p ∙ wrong-before (row_checks b i) rest f w)
+    ∙ (passed_before (rows_checks b i) (row_checks b i ++ rest) p ∙ wrong_before (row_checks b i) rest f w)
 
 pub row_passes : (b : List ℕ) (i : ℕ) → first_wrong (rows_checks b i) ≡ None → first_wrong (row_checks b i) ≡ None → first_wrong (rows_checks b (i + 1)) ≡ None
 row_passes b i p q =
     ap first_wrong (rows_split b i 0 (i + 1) (omega arith))
-    ∙ (passed-before (rows_checks b i) (row_checks b i ++ []) p ∙ passed-before (row_checks b i) [] q)
+    ∙ (passed_before (rows_checks b i) (row_checks b i ++ []) p ∙ passed_before (row_checks b i) [] q)
 
 greatest_push : (ns : List ℕ) (m : ℕ) → greatest (ns ++ (m ∷ [])) ≡ max (greatest ns) m
 greatest_push [] m = omega arith

@@ -8,8 +8,8 @@ module _ (words : List Word) (i : ℕ) (none : Word) where
   pub next_word : i < length words → blanked (drop i words) ≡ blank_and (get_or words i none) ++ blanked (drop (i + 1) words)
   next_word h = at_drop_more blanked words i none h
 
-  pub next-word-length : i < length words → length (blanked (drop i words)) ≡ 1 + length (text_of (get_or words i none)) + length (blanked (drop (i + 1) words))
-  next-word-length h = omega (arith, ap length (next_word h), length-append (blank_and (get_or words i none)) (blanked (drop (i + 1) words)))
+  pub next_word_length : i < length words → length (blanked (drop i words)) ≡ 1 + length (text_of (get_or words i none)) + length (blanked (drop (i + 1) words))
+  next_word_length h = omega (arith, ap length (next_word h), length-append (blank_and (get_or words i none)) (blanked (drop (i + 1) words)))
 
 pub no_word : (words : List Word) (i : ℕ) → length words ≤ i → blanked (drop i words) ≡ []
 no_word words i h = at_drop_all blanked words i h

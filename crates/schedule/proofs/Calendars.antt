@@ -20,8 +20,8 @@ module _ (ks : List Task) where
   Behind next deadlines = (i : ℕ) → i < length ks → get_or deadlines i 0 ≡ deadline_at (get_or ks i zero_task) (live_job (get_or next i 0))
 
   -- with one job more, each list changed at its task alone
-  pub ahead-counted : (next releases : List ℕ) (j p : ℕ) → j < length next → j < length releases → p ≡ (get_or ks j zero_task).period → Ahead next releases → Ahead (set next j (get_or next j 0 + 1)) (set releases j (get_or releases j 0 + p))
-  ahead-counted next releases j p n r e a i l =
+  pub ahead_counted : (next releases : List ℕ) (j p : ℕ) → j < length next → j < length releases → p ≡ (get_or ks j zero_task).period → Ahead next releases → Ahead (set next j (get_or next j 0 + 1)) (set releases j (get_or releases j 0 + p))
+  ahead_counted next releases j p n r e a i l =
       by_place (λ i. i < length ks → get_or (set releases j (get_or releases j 0 + p)) i 0 ≡ release (get_or ks i zero_task) (get_or (set next j (get_or next j 0 + 1)) i 0)) i j
       (λ m.
       let before = a j m in
@@ -31,8 +31,8 @@ module _ (ks : List Task) where
       get_or-set_other releases j i (get_or releases j 0 + p) 0 o ∙ (a i m ∙ ap (release (get_or ks i zero_task)) (sym (get_or-set_other next j i (get_or next j 0 + 1) 0 o))))
       l
 
-  pub behind-counted : (next deadlines : List ℕ) (t j d : ℕ) → j < length next → j < length deadlines → d ≡ (get_or ks j zero_task).deadline → t ≡ release (get_or ks j zero_task) (get_or next j 0) → Behind next deadlines → Behind (set next j (get_or next j 0 + 1)) (set deadlines j (t + d))
-  behind-counted next deadlines t j d n r e now b i l =
+  pub behind_counted : (next deadlines : List ℕ) (t j d : ℕ) → j < length next → j < length deadlines → d ≡ (get_or ks j zero_task).deadline → t ≡ release (get_or ks j zero_task) (get_or next j 0) → Behind next deadlines → Behind (set next j (get_or next j 0 + 1)) (set deadlines j (t + d))
+  behind_counted next deadlines t j d n r e now b i l =
       by_place (λ i. i < length ks → get_or (set deadlines j (t + d)) i 0 ≡ deadline_at (get_or ks i zero_task) (live_job (get_or (set next j (get_or next j 0 + 1)) i 0))) i j
       (λ m.
       let one : get_or next j 0 ≡ live_job (get_or next j 0 + 1) = omega arith in

@@ -23,32 +23,32 @@ module _ (c : Setting) (small : Small c.profile) where
     go false true = small j _
     go false false = omega arith
 
-  resumed-owing : (b j : ℕ) (s : State) → Owing b s → Owing (b + 4096) (resumed c j s)
-  resumed-owing b j s h =
+  resumed_owing : (b j : ℕ) (s : State) → Owing b s → Owing (b + 4096) (resumed c j s)
+  resumed_owing b j s h =
       let answer : answered c j s ≤ 4096 = small j (get_or (all_lost c j s) j zero_mark) in
       bounded_set (λ s. s.owed) vacant (b + 4096) s.slots j _ (omega (arith, h j)) (λ i. omega (arith, h i))
 
-  began-owing : (b j : ℕ) (s : State) → Owing b s → Owing (b + 4096) (began c j s)
-  began-owing b j s h = bounded_set (λ s. s.owed) vacant (b + 4096) s.slots j _ (omega (arith, h j)) (λ i. omega (arith, h i))
+  began_owing : (b j : ℕ) (s : State) → Owing b s → Owing (b + 4096) (began c j s)
+  began_owing b j s h = bounded_set (λ s. s.owed) vacant (b + 4096) s.slots j _ (omega (arith, h j)) (λ i. omega (arith, h i))
 
-  switched-owing : (b j : ℕ) (s : State) → Owing b s → Owing (b + 4096) (switched c j s)
-  switched-owing b j s h = go (is_running s j) (slot_of s j).begun where
+  switched_owing : (b j : ℕ) (s : State) → Owing b s → Owing (b + 4096) (switched c j s)
+  switched_owing b j s h = go (is_running s j) (slot_of s j).begun where
     go : (r d : Bool) → Owing (b + 4096) (cond {A = State} r s (cond {A = State} d (resumed c j s) (began c j s)))
     go true d = λ i. omega (arith, h i)
-    go false true = resumed-owing b j s h
-    go false false = began-owing b j s h
+    go false true = resumed_owing b j s h
+    go false false = began_owing b j s h
 
-  spent-owing : (b j : ℕ) (s : State) → Owing b s → Owing b (spent c j s)
-  spent-owing b j s h = bounded_set (λ s. s.owed) vacant b s.slots j (worked (slot_of s j)) (omega (arith, h j)) h
+  spent_owing : (b j : ℕ) (s : State) → Owing b s → Owing b (spent c j s)
+  spent_owing b j s h = bounded_set (λ s. s.owed) vacant b s.slots j (worked (slot_of s j)) (omega (arith, h j)) h
 
-  settled-owing : (b j : ℕ) (s : State) → Owing b s → Owing b (settled j s)
-  settled-owing b j s h =
+  settled_owing : (b j : ℕ) (s : State) → Owing b s → Owing b (settled j s)
+  settled_owing b j s h =
       cond_both {A = State} (eqb (slot_of s j).left 0) _ _ (Owing b) (λ _. bounded_set (λ s. s.owed) vacant b s.slots j vacant (omega arith) h) (λ _. h)
 
-  pub served-owing : (b j : ℕ) (s : State) → Owing b s → Owing (b + 4096) (served c (Some j) s)
-  served-owing b j s h =
-      settled-owing (b + 4096) j (spent c j (switched c j s)) (spent-owing (b + 4096) j (switched c j s) (switched-owing b j s h))
+  pub served_owing : (b j : ℕ) (s : State) → Owing b s → Owing (b + 4096) (served c (Some j) s)
+  served_owing b j s h =
+      settled_owing (b + 4096) j (spent c j (switched c j s)) (spent_owing (b + 4096) j (switched c j s) (switched_owing b j s h))
 
-  pub charged-small : (b j : ℕ) (ds : List ℕ) (s : State) → ((i : ℕ) → get_or ds i 0 ≤ b) → (i : ℕ) → get_or (set ds j (get_or ds j 0 + delay_to c j s)) i 0 ≤ b + 4096
-  charged-small b j ds s h =
+  pub charged_small : (b j : ℕ) (ds : List ℕ) (s : State) → ((i : ℕ) → get_or ds i 0 ≤ b) → (i : ℕ) → get_or (set ds j (get_or ds j 0 + delay_to c j s)) i 0 ≤ b + 4096
+  charged_small b j ds s h =
       bounded_set (λ n. n) 0 (b + 4096) ds j (get_or ds j 0 + delay_to c j s) (omega (arith, h j, delay_small j s)) (λ i. omega (arith, h i))

@@ -3,7 +3,7 @@ use Rattle.std.proofs.Common.{◌≡◌, ℕ, ◌^◌, ◌≤◌, true, not, ◌
 use Rattle.std.proofs.lemmas.Bool.{and_parts, cond-false, leb-false, ltb-false, ltb-true, not-false, not_from_true}
 use Rattle.fault.specs.declared.Fault.{Fault}
 use Rattle.plan.proofs.Commons.{common_found, lcm_pair}
-use Rattle.plan.proofs.FirstWrong.{none_left, passed-before, wrong-before}
+use Rattle.plan.proofs.FirstWrong.{none_left, passed_before, wrong_before}
 use Rattle.plan.proofs.RowLaws.{lawful_from, rules_kept}
 use Rattle.plan.specs.declared.tasks.Task.{Task}
 use Rattle.plan.specs.Checks.{first_wrong}
@@ -32,28 +32,28 @@ fits_parts t e =
     }
 
 module _ (w : PlanWriter) (t : Task) (room : ℕ) where
-  pub place-refuses : (f : Fault) → first_wrong (place_checks w t room) ≡ Some f → first_wrong (row_checks w t room) ≡ Some f
-  place-refuses f e = wrong-before (place_checks w t room) (rule_checks (in_writer w.next) t ++ period_checks w t) f e
+  pub place_refuses : (f : Fault) → first_wrong (place_checks w t room) ≡ Some f → first_wrong (row_checks w t room) ≡ Some f
+  place_refuses f e = wrong_before (place_checks w t room) (rule_checks (in_writer w.next) t ++ period_checks w t) f e
 
   module _ (placed : first_wrong (place_checks w t room) ≡ None) where
-    past-place : first_wrong (row_checks w t room) ≡ first_wrong (rule_checks (in_writer w.next) t ++ period_checks w t)
-    past-place = passed-before (place_checks w t room) (rule_checks (in_writer w.next) t ++ period_checks w t) placed
+    past_place : first_wrong (row_checks w t room) ≡ first_wrong (rule_checks (in_writer w.next) t ++ period_checks w t)
+    past_place = passed_before (place_checks w t room) (rule_checks (in_writer w.next) t ++ period_checks w t) placed
 
-    pub rule-refuses : (f : Fault) → first_wrong (rule_checks (in_writer w.next) t) ≡ Some f → first_wrong (row_checks w t room) ≡ Some f
-    rule-refuses f e = past-place ∙ wrong-before (rule_checks (in_writer w.next) t) (period_checks w t) f e
+    pub rule_refuses : (f : Fault) → first_wrong (rule_checks (in_writer w.next) t) ≡ Some f → first_wrong (row_checks w t room) ≡ Some f
+    rule_refuses f e = past_place ∙ wrong_before (rule_checks (in_writer w.next) t) (period_checks w t) f e
 
-    pub period-refuses : (f : Fault) → first_wrong (rule_checks (in_writer w.next) t) ≡ None → first_wrong (period_checks w t) ≡ Some f → first_wrong (row_checks w t room) ≡ Some f
-    period-refuses f kept e = past-place ∙ (passed-before (rule_checks (in_writer w.next) t) (period_checks w t) kept ∙ e)
+    pub period_refuses : (f : Fault) → first_wrong (rule_checks (in_writer w.next) t) ≡ None → first_wrong (period_checks w t) ≡ Some f → first_wrong (row_checks w t room) ≡ Some f
+    period_refuses f kept e = past_place ∙ (passed_before (rule_checks (in_writer w.next) t) (period_checks w t) kept ∙ e)
 
-    pub row-checked : (h : ℕ) → first_wrong (rule_checks (in_writer w.next) t) ≡ None → Joins h w.hyperperiod.ticks t.period → h ≤ hyperperiod_limit → RowChecked w t room h
-    row-checked h kept joins small =
+    pub row_checked : (h : ℕ) → first_wrong (rule_checks (in_writer w.next) t) ≡ None → Joins h w.hyperperiod.ticks t.period → h ≤ hyperperiod_limit → RowChecked w t room h
+    row_checked h kept joins small =
         let free = none_left (leb w.count w.next) _ _ placed in
         let space = none_left (ltb room (whole_bytes w.count)) _ _ free.1 in
         let fits = not-false _ (none_left (not (fits_row t)) _ _ space.1).0 in
         let rules = rules_kept (in_writer w.next) t kept in
         let found = common_found hyperperiod_limit h _ joins.positive small (lcm_pair h w.hyperperiod.ticks t.period joins).1 in
         record {
-          passed = past-place ∙ (passed-before (rule_checks (in_writer w.next) t) (period_checks w t) kept ∙ cond-false _ _ _ (not_from_true _ found));
+          passed = past_place ∙ (passed_before (rule_checks (in_writer w.next) t) (period_checks w t) kept ∙ cond-false _ _ _ (not_from_true _ found));
           free = leb-false _ _ free.0;
           space = ltb-false _ _ space.0;
           fits = fits_parts t fits;

@@ -6,7 +6,7 @@ use Rattle.std.proofs.lemmas.Bool.{cond-false, eq-eqb, le-ltb, not_from_true}
 use Rattle.std.specs.List.{range_with_len}
 use Rattle.bits.proofs.Layouts.{fields_at_same, fields_at_take}
 use Rattle.bits.specs.Layouts.{fields_at}
-use Rattle.plan.proofs.AdmissionLaws.{all-passed}
+use Rattle.plan.proofs.AdmissionLaws.{all_passed}
 use Rattle.plan.proofs.Commons.{lcm_none, lcm_push}
 use Rattle.plan.proofs.Encodings.{head_spells, row_at, row_fields, row_spells}
 use Rattle.plan.proofs.Passing.{rows_pass}
@@ -79,39 +79,39 @@ module _ (w : PlanWriter) (done : w.next ≡ w.count) (b : List ℕ) (reload : �
   abbrev pub plan : List ℕ
   plan = take (whole_bytes w.count) b
 
-  plan-size : length plan ≡ whole_bytes w.count
-  plan-size = length-take-le (whole_bytes w.count) b wrote.room
+  plan_size : length plan ≡ whole_bytes w.count
+  plan_size = length-take-le (whole_bytes w.count) b wrote.room
 
-  plan-head : (revision_of plan ≡ 1) × (count_of plan ≡ w.count) × (reload_of plan ≡ reload) × (head_spare_of plan ≡ 0)
-  plan-head = head_spells plan 1 w.count reload 0 w.counted.0 (fields_at_take b (whole_bytes w.count) 0 head_widths (omega arith) ∙ wrote.head)
+  plan_head : (revision_of plan ≡ 1) × (count_of plan ≡ w.count) × (reload_of plan ≡ reload) × (head_spare_of plan ≡ 0)
+  plan_head = head_spells plan 1 w.count reload 0 w.counted.0 (fields_at_take b (whole_bytes w.count) 0 head_widths (omega arith) ∙ wrote.head)
 
-  plan-row : (i : ℕ) → i < w.count → (row_of (body plan) i ≡ row_of (body b) i) × (spare_of (row_bytes (body plan) i) ≡ spare_of (row_bytes (body b) i))
-  plan-row i h =
+  plan_row : (i : ℕ) → i < w.count → (row_of (body plan) i ≡ row_of (body b) i) × (spare_of (row_bytes (body plan) i) ≡ spare_of (row_bytes (body b) i))
+  plan_row i h =
       row_spells (row_bytes (body plan) i) (row_of (body b) i) (spare_of (row_bytes (body b) i))
       (row_at plan i row_widths ∙ (fields_at_take b (whole_bytes w.count) (16 + 232 * i) row_widths (omega arith) ∙ sym (row_at b i row_widths)))
 
-  plan-rows : rows_of (body plan) w.count ≡ ts
-  plan-rows =
-      map_counting_same (row_of (body plan)) (row_of (body b)) w.count (λ i h. (plan-row i h).0) ∙ (ap (rows_of (body b)) (sym done) ∙ wrote.rows)
+  plan_rows : rows_of (body plan) w.count ≡ ts
+  plan_rows =
+      map_counting_same (row_of (body plan)) (row_of (body b)) w.count (λ i h. (plan_row i h).0) ∙ (ap (rows_of (body b)) (sym done) ∙ wrote.rows)
 
-  body-size : length (body plan) ≡ 29 * w.count
-  body-size = omega (arith, plan-size, length-drop 2 plan)
+  body_size : length (body plan) ≡ 29 * w.count
+  body_size = omega (arith, plan_size, length-drop 2 plan)
 
-  head-passes : first_wrong (head_checks plan) ≡ None
-  head-passes =
-      let long : 2 ≤ length plan = omega (arith, plan-size) in
+  head_passes : first_wrong (head_checks plan) ≡ None
+  head_passes =
+      let long : 2 ≤ length plan = omega (arith, plan_size) in
       cond-false _ _ _ (le-ltb _ _ long)
-      ∙ (cond-false _ _ _ (not_from_true _ (eq-eqb _ _ plan-head.0)) ∙ cond-false _ _ _ (not_from_true _ (eq-eqb _ _ plan-head.3)))
+      ∙ (cond-false _ _ _ (not_from_true _ (eq-eqb _ _ plan_head.0)) ∙ cond-false _ _ _ (not_from_true _ (eq-eqb _ _ plan_head.3)))
 
-  rows-passing : first_wrong (rows_checks (body plan) w.count) ≡ None
-  rows-passing =
-      rows_pass (body plan) w.hyperperiod.ticks w.hyperperiod.positive w.hyperperiod.limited w.count (omega (arith, body-size))
-      (λ i h. (plan-row i h).1 ∙ wrote.spares i (omega (arith, done)))
-      (ap (all_of lawful) plan-rows ∙ wrote.keeping)
-      (ap (λ (z : List Task). common w.hyperperiod.ticks (periods z)) plan-rows ∙ wrote.repeating.1)
+  rows_passing : first_wrong (rows_checks (body plan) w.count) ≡ None
+  rows_passing =
+      rows_pass (body plan) w.hyperperiod.ticks w.hyperperiod.positive w.hyperperiod.limited w.count (omega (arith, body_size))
+      (λ i h. (plan_row i h).1 ∙ wrote.spares i (omega (arith, done)))
+      (ap (all_of lawful) plan_rows ∙ wrote.keeping)
+      (ap (λ (z : List Task). common w.hyperperiod.ticks (periods z)) plan_rows ∙ wrote.repeating.1)
 
   pub read_back : admission plan ≡ Ok (record { reload = reload; tasks = ts })
   read_back =
-      all-passed plan head-passes w.count (body plan) (sym plan-head.1) refl rows-passing reload ts
-      (cond-false _ _ _ (le-ltb _ _ (let short : length (body plan) ≤ 29 * w.count = omega (arith, body-size) in short)))
-      (sym plan-head.2) (sym plan-rows)
+      all_passed plan head_passes w.count (body plan) (sym plan_head.1) refl rows_passing reload ts
+      (cond-false _ _ _ (le-ltb _ _ (let short : length (body plan) ≤ 29 * w.count = omega (arith, body_size) in short)))
+      (sym plan_head.2) (sym plan_rows)

@@ -1,16 +1,16 @@
 use Rattle.std.proofs.Common.{arith}
 use Rattle.report.specs.declared.word.Word.TheVariants.{Open}
 use Rattle.report.proofs.Puts.{put_then, up_to_more, up_to_all, up_to_room}
-use Rattle.report.proofs.Words.{next_word, next-word-length, no_word}
+use Rattle.report.proofs.Words.{next_word, next_word_length, no_word}
 use Rattle.report.proofs.line.put_words.Goals as goal
 
 pub put-byte-end-requires : goal.put-byte-end-requires
 put-byte-end-requires c =
-    omega (arith, up_to_room c.loop-word.invariant, next-word-length c.args.words.now c.loop-word.word-index Open (omega arith))
+    omega (arith, up_to_room c.loop-word.invariant, next_word_length c.args.words.now c.loop-word.word-index Open (omega arith))
 
 pub put-word-end-requires : goal.put-word-end-requires
 put-word-end-requires c =
-    omega (arith, up_to_room c.loop-word.invariant, next-word-length c.args.words.now c.loop-word.word-index Open (omega arith), c.put-byte-end.ensures.place)
+    omega (arith, up_to_room c.loop-word.invariant, next_word_length c.args.words.now c.loop-word.word-index Open (omega arith), c.put-byte-end.ensures.place)
 
 pub loop-word-preserved : goal.loop-word-preserved
 loop-word-preserved c =

@@ -1,21 +1,21 @@
 use Rattle.std.proofs.Common.{length, ap, arith}
 use Rattle.report.proofs.Rooms.{leaves_none}
-use Rattle.report.proofs.Tasks.{next-task-length, no-task}
+use Rattle.report.proofs.Tasks.{next_task_length, no_task}
 use Rattle.report.proofs.summary.room_after_tasks.Goals as goal
 
 pub returns-in-err-left : goal.returns-in-err-left
 returns-in-err-left c =
     leaves_none _ _ _ _ c.from-residual.ensures
-    (omega (arith, c.in-err-left.ensures, next-task-length c.args.summaries.now c.loop-task.task (omega arith)))
+    (omega (arith, c.in-err-left.ensures, next_task_length c.args.summaries.now c.loop-task.task (omega arith)))
     (omega (arith, c.in-err-left.ensures))
 
 pub loop-task-preserved : goal.loop-task-preserved
 loop-task-preserved c = (
-  omega (arith, c.in-ok-left.ensures, next-task-length c.args.summaries.now c.loop-task.task (omega arith)),
+  omega (arith, c.in-ok-left.ensures, next_task_length c.args.summaries.now c.loop-task.task (omega arith)),
   omega (arith, c.in-ok-left.ensures),
 )
 
 pub returns : goal.returns
 returns c =
-    let end = ap length (no-task c.args.summaries.now c.loop-task.task (omega arith)) in
+    let end = ap length (no_task c.args.summaries.now c.loop-task.task (omega arith)) in
     (omega arith, omega arith)

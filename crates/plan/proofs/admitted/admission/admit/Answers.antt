@@ -2,8 +2,8 @@ use Rattle.std.proofs.Common.{◌<◌, ◌≤◌, arith}
 use Rattle.std.proofs.ByRecursion.{All-from_get_or}
 use Rattle.std.proofs.lemmas.Result.{err_from_is_err_and}
 use Rattle.bits.proofs.Fields.{spelled_below_power}
-use Rattle.plan.proofs.AdmissionLaws.{rows-refuse, end-refuses, all-passed}
-use Rattle.plan.proofs.Encodings.{one-encoding}
+use Rattle.plan.proofs.AdmissionLaws.{rows_refuse, end_refuses, all_passed}
+use Rattle.plan.proofs.Encodings.{one_encoding}
 use Rattle.plan.proofs.admitted.admission.admit.Goals as goal
 
 pub read-rows-requires : goal.read-rows-requires
@@ -15,7 +15,7 @@ pub returns-in-err-rows : goal.returns-in-err-rows
 returns-in-err-rows c =
     let head = c.in-ok-head.ensures in
     let refused =
-    rows-refuse c.args.bytes.now head.0 c.in-ok-head.head.count c.in-ok-head.body.now head.1.count head.1.after
+    rows_refuse c.args.bytes.now head.0 c.in-ok-head.head.count c.in-ok-head.body.now head.1.count head.1.after
     c.in-err-rows.field-0.0 c.in-err-rows.ensures in
     let p = err_from_is_err_and c.from-residual-in-err-rows.result c.from-residual-in-err-rows.ensures.1 in
     record { answer = rw (p.1, p.2) refused; encoding = rw p.1 tt }
@@ -24,7 +24,7 @@ pub returns-in-err-end-after : goal.returns-in-err-end-after
 returns-in-err-end-after c =
     let head = c.in-ok-head.ensures in
     let refused =
-    end-refuses c.args.bytes.now head.0 c.in-ok-head.head.count c.in-ok-head.body.now head.1.count head.1.after
+    end_refuses c.args.bytes.now head.0 c.in-ok-head.head.count c.in-ok-head.body.now head.1.count head.1.after
     c.in-ok-rows.ensures.1.passed c.in-err-end-after.field-0.0 c.in-err-end-after.ensures in
     let p = err_from_is_err_and c.from-residual-in-err-end-after.result c.from-residual-in-err-end-after.ensures.1 in
     record { answer = rw (p.1, p.2) refused; encoding = rw p.1 tt }
@@ -44,7 +44,7 @@ returns c =
     let head = c.in-ok-head.ensures in
     let rows = c.in-ok-rows.ensures.1 in
     let answer =
-    all-passed c.args.bytes.now head.0 c.in-ok-head.head.count c.in-ok-head.body.now head.1.count head.1.after
+    all_passed c.args.bytes.now head.0 c.in-ok-head.head.count c.in-ok-head.body.now head.1.count head.1.after
     rows.passed _ _ c.in-ok-end-after.ensures head.1.reload rows.spelled in
     let bytes = All-from_get_or (λ b. b < 256) c.args.bytes.now 0 (λ i h. omega (arith, c.type-inv.bytes i)) in
-    record { answer = answer; encoding = λ other p e. one-encoding other c.args.bytes.now _ e answer p bytes }
+    record { answer = answer; encoding = λ other p e. one_encoding other c.args.bytes.now _ e answer p bytes }

@@ -6,7 +6,7 @@ use Rattle.plan.proofs.TaskTimes.{times_at}
 use Rattle.plan.specs.Plans.{tasks_in}
 use Rattle.plan.specs.declared.tasks.Task.{Task}
 use Rattle.schedule.proofs.Bounds.{bounded_set}
-use Rattle.schedule.proofs.Calendars.{ahead-counted, behind-counted, number_small}
+use Rattle.schedule.proofs.Calendars.{ahead_counted, behind_counted, number_small}
 use Rattle.schedule.proofs.calendar.Calendar.count_release.Goals as goal
 use Rattle.schedule.specs.Jobs.{release}
 
@@ -40,9 +40,9 @@ invariant-of-self c =
           (
             length-set old.deadlines j _ ∙ old.limited,
             (
-              ahead-counted ks old.next old.releases j _ (omega (arith, old.numbered)) (omega (arith, old.released)) period old.ahead,
+              ahead_counted ks old.next old.releases j _ (omega (arith, old.numbered)) (omega (arith, old.released)) period old.ahead,
               (
-                behind-counted ks old.next old.deadlines old.clock j _ (omega (arith, old.numbered)) (omega (arith, old.limited)) deadline (eqb-true _ _ c.requires.released) old.behind,
+                behind_counted ks old.next old.deadlines old.clock j _ (omega (arith, old.numbered)) (omega (arith, old.limited)) deadline (eqb-true _ _ c.requires.released) old.behind,
                 (bounded_set (λ n. n) 0 _ old.deadlines j _ (omega arith) old.near, tt),
               ),
             ),

@@ -1,6 +1,6 @@
 use Rattle.std.proofs.Common.{◌≡◌, ◌≤◌, get_or, ap, arith}
 use Rattle.plan.specs.Plans.{tasks_in}
-use Rattle.schedule.proofs.Owing.{charged-small, served-owing}
+use Rattle.schedule.proofs.Owing.{charged_small, served_owing}
 use Rattle.schedule.proofs.ticking.Schedule.serve.Goals as goal
 use Rattle.schedule.specs.States.{State, slot_of}
 use Rattle.schedule.specs.Tables.{state_of, unruled}
@@ -13,11 +13,11 @@ invariant-of-self g c =
     let small = g.met.M.DelayModel.bounded c.args.model.now in
     let x = state_of old.jobs (g.M.DelayModel.marks c.args.model.now) in (
       λ i.
-          let owed = served-owing s small _ j x old.owing i in
+          let owed = served_owing s small _ j x old.owing i in
           omega (arith, c.step.ensures.clock, ap (λ (z : State). (slot_of z i).owed) c.serve-task-served.ensures.state),
       (
         λ i.
-            let delays = charged-small s small _ j old.jobs.delays x old.charging i in
+            let delays = charged_small s small _ j old.jobs.delays x old.charging i in
             omega (arith, c.step.ensures.clock, ap (λ l. get_or l i 0) c.serve-task-served.ensures.delays),
         tt,
       ),
