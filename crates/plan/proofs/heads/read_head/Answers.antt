@@ -5,19 +5,19 @@ use Rattle.plan.proofs.heads.read_head.Goals as goal
 
 pub returns-then-first-ne-REVISION : goal.returns-then-first-ne-REVISION
 returns-then-first-ne-REVISION c =
-    let revision = revision_bits c.args.bytes.now (omega (arith, c.type-inv.bytes 0)) in
+    let revision = revision_bits c.args.bytes.now (omega (arith, c.type_inv.bytes 0)) in
     search rules
 
 pub returns-then-second-ne0 : goal.returns-then-second-ne0
 returns-then-second-ne0 c =
-    let revision = revision_bits c.args.bytes.now (omega (arith, c.type-inv.bytes 0)) in
+    let revision = revision_bits c.args.bytes.now (omega (arith, c.type_inv.bytes 0)) in
     let spare = spare_bits c.args.bytes.now in
     search rules
 
 pub returns : goal.returns
 returns c =
-    let revision = revision_bits c.args.bytes.now (omega (arith, c.type-inv.bytes 0)) in
+    let revision = revision_bits c.args.bytes.now (omega (arith, c.type_inv.bytes 0)) in
     let spare = spare_bits c.args.bytes.now in
     let count = count_bits c.args.bytes.now in
-    let reload = reload_bits c.args.bytes.now (omega (arith, c.type-inv.bytes 1)) in
+    let reload = reload_bits c.args.bytes.now (omega (arith, c.type_inv.bytes 1)) in
     (search rules, record { count = omega arith; reload = omega arith; after = take_rest c.args.bytes.now 2 })

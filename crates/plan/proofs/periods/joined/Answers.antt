@@ -8,8 +8,8 @@ pub returns-then-period-eq0 : goal.returns-then-period-eq0
 returns-then-period-eq0 c =
     ap (λ (z : ℕ). common_up_to hyperperiod_limit (c.args.ticks ∷ z ∷ [])) c.if-period-eq0.true ∙ zero_joins_none hyperperiod_limit c.args.ticks
 
-pub nonzero-div-multiple : goal.nonzero-div-multiple
-nonzero-div-multiple c = gcd_positive _ _ _ c.requires.0 c.gcd.ensures
+pub nonzero_div-multiple : goal.nonzero_div-multiple
+nonzero_div-multiple c = gcd_positive _ _ _ c.requires.0 c.gcd.ensures
 
 pub returns-then-multiple-gt-LIMIT : goal.returns-then-multiple-gt-LIMIT
 returns-then-multiple-gt-LIMIT c =

@@ -6,22 +6,22 @@ use Rattle.plan.proofs.RowsLaws.{rows_none, rows_more, row_stops}
 use Rattle.plan.proofs.rows.read_rows.Goals as goal
 
 pub loop-row-init : goal.loop-row-init
-loop-row-init c = (refl, rows_none _ _ c.of-none-hyperperiod.ensures)
+loop-row-init c = (refl, rows_none _ _ c.of_none-hyperperiod.ensures)
 
-pub returns-in-err-task : goal.returns-in-err-task
-returns-in-err-task c =
-    let stopped = row_stops c.args.body.now c.loop-row.row c.args.count c.in-err-task.field-0.0 (omega arith) c.loop-row.invariant.1.passed c.in-err-task.ensures in
-    let p = err_from_is_err_and c.from-residual.result c.from-residual.ensures.1 in
+pub returns-in_err-task : goal.returns-in_err-task
+returns-in_err-task c =
+    let stopped = row_stops c.args.body.now c.loop-row.row c.args.count c.in_err-task.field-0.0 (omega arith) c.loop-row.invariant.1.passed c.in_err-task.ensures in
+    let p = err_from_is_err_and c.from_residual.result c.from_residual.ensures.1 in
     rw (p.1, p.2) stopped
 
 pub loop-row-preserved : goal.loop-row-preserved
 loop-row-preserved c =
     let within : c.loop-row.row < length c.loop-row.tasks = omega arith in
-    let longer = take_more_set c.loop-row.tasks c.loop-row.row c.in-ok-task.task within in
-    (search rules, rows_more _ _ _ _ _ _ _ _ _ c.loop-row.invariant.1 c.in-ok-task.ensures longer c.max-greatest-offset.ensures)
+    let longer = take_more_set c.loop-row.tasks c.loop-row.row c.in_ok-task.task within in
+    (search rules, rows_more _ _ _ _ _ _ _ _ _ c.loop-row.invariant.1 c.in_ok-task.ensures longer c.max-greatest_offset.ensures)
 
 pub returns : goal.returns
 returns c =
     let all : c.loop-row.row ≡ c.args.count = omega arith in
-    let Done : ℕ → Type 0 = λ n. RowsAdmitted c.args.body.now n (take n c.loop-row.tasks) c.loop-row.greatest-offset c.loop-row.hyperperiod.ticks in
+    let Done : ℕ → Type 0 = λ n. RowsAdmitted c.args.body.now n (take n c.loop-row.tasks) c.loop-row.greatest_offset c.loop-row.hyperperiod.ticks in
     (c.loop-row.invariant.0, subst Done all c.loop-row.invariant.1)
