@@ -1,6 +1,7 @@
 //! The mark of one task.
 
-ghost use Rattle.std.specs.Prelude.{◌≡◌, Decides};
+ghost use Rattle.std.specs.Prelude.{◌≡◌, ◌↔◌, IsTrue, nat_eq};
+ghost use Rattle.std.specs.Ordering.{on, eq_of_both};
 ghost use Rattle.std.specs.Cmp.Rules.{comparing};
 ghost use Rattle.std.proofs.Common.{rules};
 ghost use Rattle.std.specs.Cmp as Keys;
@@ -15,11 +16,14 @@ pub struct Mark {
 }
 
 impl PartialEq for Mark {
-    ghost equals = { λ a b r. Decides r (a ≡ b) };
+    ghost eq = { eq_of_both (on (λ m. m.kept.lines) nat_eq) (on (λ m. m.credit) nat_eq) };
 
     ghost laws = { Keys.partial_equiv_from_equiv (Prim.search (comparing, rules)) };
 
-    fn eq(&self, other: &Mark) -> bool {
+    fn eq(&self, other: &Mark) -> bool
+        ensures parts { result ≡ eq_of_both (on (λ m. m.kept.lines) nat_eq) (on (λ m. m.credit) nat_eq) self.now other.now }
+        ensures same { IsTrue result ↔ (self.now ≡ other.now) }
+    {
         self.kept.lines == other.kept.lines && self.credit == other.credit
     }
 }

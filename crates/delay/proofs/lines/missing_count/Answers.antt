@@ -4,6 +4,6 @@ use Rattle.delay.proofs.lines.missing_count.Goals as goal
 
 pub returns : goal.returns
 returns c = record {
-  value = c.line-count.ensures.value ∙ missing_counted c.args.useful.lines c.args.kept.lines _ (omega arith) c.left-of.ensures.whole;
-  most = c.line-count.ensures.most;
+  value = c.line_count.ensures.value ∙ missing_counted c.args.useful.lines c.args.kept.lines _ (omega arith) c.left_of.ensures.whole;
+  most = c.line_count.ensures.most;
 }

@@ -4,4 +4,4 @@ use Rattle.delay.proofs.table.MarkTable.at.Goals as goal
 
 pub returns-else-task-lt-TASKS : goal.returns-else-task-lt-TASKS
 returns-else-task-lt-TASKS c =
-    c.zero-mark.ensures ∙ sym (get_or_past c.args.self.now.marks c.args.task _ (omega arith))
+    c.zero_mark.ensures ∙ sym (get_or_past c.args.self.now.marks c.args.task _ (omega arith))
