@@ -3,7 +3,7 @@
 ghost use Rattle.std.specs.Prelude.{◌≡◌, ◌≤◌, length, nat_le};
 ghost use Rattle.dispatch.specs.Policies.{fixed_priority, priority_at, priority_table};
 ghost use Rattle.plan.specs.Plans.{tasks_in};
-ghost use Rattle.std.proofs.Common.{rules, arith};
+ghost use Rattle.std.proofs.Common.{rules};
 ghost use Rattle.dispatch.specs.Urgencies.{most_urgent_live};
 
 use crate::candidates::Candidate;
@@ -54,9 +54,9 @@ fn priority_table(tasks: &[Task]) -> [u8; MOST_TASKS]
 impl Urgency for FixedPriority {
     ghost urgent = { λ u rows i k. nat_le (priority_at u.priorities k) (priority_at u.priorities i) };
 
-    ghost total = { first_of (Prim.search rules, Prim.grind (arith, Self.row.coded.inj)) };
+    ghost total = { Prim.search rules };
 
-    ghost through = { first_of (Prim.search rules, Prim.grind (arith, Self.row.coded.inj)) };
+    ghost through = { Prim.search rules };
 
     fn at_least(&self, rows: &[Candidate], first: usize, second: usize) -> bool {
         self.priority(second) <= self.priority(first)

@@ -23,7 +23,7 @@ pub(crate) trait Urgency {
 
 /// The most urgent of the live tasks, the first of several.
 pub(crate) fn most_urgent<U: Urgency>(by: &U, rows: &[Candidate]) -> Option<usize>
-    ensures { result ≡ most_urgent (urgent by.now rows.now) rows.now }
+    ensures { result ≡ most_urgent (U.urgent by.now rows.now) rows.now }
 {
     let mut best = None;
     for task in 0..rows.len() {
@@ -40,7 +40,7 @@ fn better_of<U: Urgency>(
     task: usize,
 ) -> Option<usize>
     requires { (task < length rows.now) × (IfSome best (λ b. b < length rows.now)) }
-    ensures { result ≡ better (urgent by.now rows.now) rows.now best task }
+    ensures { result ≡ better (U.urgent by.now rows.now) rows.now best task }
 {
     if !rows[task].live {
         return best;
