@@ -3,8 +3,8 @@ use Rattle.report.proofs.Digits.{width_more, width_one, digit_more, digit_last}
 use Rattle.report.proofs.Puts.{put_overlaid}
 use Rattle.report.proofs.decimal.put_decimal.Goals as goal
 
-pub overflow-sub-place : goal.overflow-sub-place
-overflow-sub-place c = omega (arith, width_more c.loop-m.m (omega arith) (omega arith))
+pub overflow_sub-place : goal.overflow_sub-place
+overflow_sub-place c = omega (arith, width_more c.loop-m.m (omega arith) (omega arith))
 
 pub bounds-out-place : goal.bounds-out-place
 bounds-out-place c = omega (arith, width_more c.loop-m.m (omega arith) (omega arith))

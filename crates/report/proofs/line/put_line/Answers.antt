@@ -3,15 +3,15 @@ use Rattle.report.proofs.Puts.{put_then}
 use Rattle.report.proofs.Words.{line_length}
 use Rattle.report.proofs.line.put_line.Goals as goal
 
-pub put-word-end-requires : goal.put-word-end-requires
-put-word-end-requires c = omega (arith, line_length c.args.first c.args.words.now)
+pub put_word-end-requires : goal.put_word-end-requires
+put_word-end-requires c = omega (arith, line_length c.args.first c.args.words.now)
 
-pub put-words-end-requires : goal.put-words-end-requires
-put-words-end-requires c = omega (arith, line_length c.args.first c.args.words.now, c.put-word-end.ensures.place)
+pub put_words-end-requires : goal.put_words-end-requires
+put_words-end-requires c = omega (arith, line_length c.args.first c.args.words.now, c.put_word-end.ensures.place)
 
-pub put-byte-requires : goal.put-byte-requires
-put-byte-requires c =
-    omega (arith, line_length c.args.first c.args.words.now, c.put-word-end.ensures.place, c.put-words-end.ensures.place)
+pub put_byte-requires : goal.put_byte-requires
+put_byte-requires c =
+    omega (arith, line_length c.args.first c.args.words.now, c.put_word-end.ensures.place, c.put_words-end.ensures.place)
 
 pub returns : goal.returns
-returns c = put_then c.put-word-end.ensures (put_then c.put-words-end.ensures c.put-byte.ensures)
+returns c = put_then c.put_word-end.ensures (put_then c.put_words-end.ensures c.put_byte.ensures)

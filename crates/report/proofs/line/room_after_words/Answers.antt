@@ -4,16 +4,16 @@ use Rattle.report.proofs.Rooms.{leaves_none}
 use Rattle.report.proofs.Words.{next_word_length, no_word}
 use Rattle.report.proofs.line.room_after_words.Goals as goal
 
-pub returns-in-err-left : goal.returns-in-err-left
-returns-in-err-left c =
-    leaves_none _ _ _ _ c.from-residual.ensures
-    (omega (arith, c.in-err-left.ensures, next_word_length c.args.words.now c.loop-word.word-index Open (omega arith)))
-    (omega (arith, c.in-err-left.ensures))
+pub returns-in_err-left : goal.returns-in_err-left
+returns-in_err-left c =
+    leaves_none _ _ _ _ c.from_residual.ensures
+    (omega (arith, c.in_err-left.ensures, next_word_length c.args.words.now c.loop-word.word-index Open (omega arith)))
+    (omega (arith, c.in_err-left.ensures))
 
 pub loop-word-preserved : goal.loop-word-preserved
 loop-word-preserved c = (
-  omega (arith, c.in-ok-left.ensures, next_word_length c.args.words.now c.loop-word.word-index Open (omega arith)),
-  omega (arith, c.in-ok-left.ensures),
+  omega (arith, c.in_ok-left.ensures, next_word_length c.args.words.now c.loop-word.word-index Open (omega arith)),
+  omega (arith, c.in_ok-left.ensures),
 )
 
 pub returns : goal.returns

@@ -3,13 +3,13 @@ use Rattle.report.specs.Reports.{standing_line, task_lines}
 use Rattle.report.proofs.Rooms.{leaves_none, leaves_after}
 use Rattle.report.proofs.standing.room_after_report.Goals as goal
 
-pub returns-in-err-left : goal.returns-in-err-left
-returns-in-err-left c =
-    leaves_none _ _ _ _ c.from-residual.ensures
-    (omega (arith, c.in-err-left.ensures, length-append (standing_line c.args.standing) (task_lines 0 c.args.summaries.now)))
-    (omega (arith, c.in-err-left.ensures))
+pub returns-in_err-left : goal.returns-in_err-left
+returns-in_err-left c =
+    leaves_none _ _ _ _ c.from_residual.ensures
+    (omega (arith, c.in_err-left.ensures, length-append (standing_line c.args.standing) (task_lines 0 c.args.summaries.now)))
+    (omega (arith, c.in_err-left.ensures))
 
 pub returns : goal.returns
 returns c =
-    leaves_after (length (standing_line c.args.standing)) _ _ c.in-ok-left.left _ _ _ _ c.in-ok-left.ensures.0 (omega (arith, c.in-ok-left.ensures))
-    (length-append (standing_line c.args.standing) (task_lines 0 c.args.summaries.now)) c.room-after-tasks.ensures
+    leaves_after (length (standing_line c.args.standing)) _ _ c.in_ok-left.left _ _ _ _ c.in_ok-left.ensures.0 (omega (arith, c.in_ok-left.ensures))
+    (length-append (standing_line c.args.standing) (task_lines 0 c.args.summaries.now)) c.room_after_tasks.ensures

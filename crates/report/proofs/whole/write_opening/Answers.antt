@@ -18,4 +18,4 @@ returns c =
     let end : length c.tasks-count.result.now - 0 ≡ length (tasks_in plan) = omega arith in
     let same = take-replicate (length c.tasks-count.result.now - 0) 16 untouched (omega arith) ∙ ap (λ (z : ℕ). replicate z untouched) end in
     written_within _ 1428 _ _ _ _ (omega (arith, length-replicate (length (tasks_in plan)) untouched))
-    (subst (λ (z : List Summary). Written (84 * length z + 84) (opened_text (Open 0) z) c.args.out.now c.write-standing.new.out c.write-standing.result) same c.write-standing.ensures)
+    (subst (λ (z : List Summary). Written (84 * length z + 84) (opened_text (Open 0) z) c.args.out.now c.write_standing.new.out c.write_standing.result) same c.write_standing.ensures)

@@ -4,14 +4,14 @@ use Rattle.writer.proofs.token.PlanWriter.begin.Goals as goal
 
 pub returns : goal.returns
 returns c =
-    let passed = c.in-ok-check-begin.ensures in
+    let passed = c.in_ok-check_begin.ensures in
     record {
       refused = passed.0;
       begun = record {
         count = refl;
         next = refl;
-        hyperperiod = c.of-none.ensures;
-        written = c.write-head.ensures;
-        kept = begun_kept c.args.buffer.now _ c.args.block-reload-time _ refl c.of-none.ensures passed.1 c.write-head.ensures;
+        hyperperiod = c.of_none.ensures;
+        written = c.write_head.ensures;
+        kept = begun_kept c.args.buffer.now _ c.args.block_reload_time _ refl c.of_none.ensures passed.1 c.write_head.ensures;
       };
     }

@@ -7,6 +7,6 @@ pub returns : goal.returns
 returns c =
     let done : c.args.self.next ≡ c.args.self.count = omega arith in (
       search rules,
-      c.whole-bytes.ensures,
-      λ b reload ts wrote. ap (λ (n : ℕ). admission (take n b)) c.whole-bytes.ensures ∙ read_back c.args.self done b reload ts wrote,
+      c.whole_bytes.ensures,
+      λ b reload ts wrote. ap (λ (n : ℕ). admission (take n b)) c.whole_bytes.ensures ∙ read_back c.args.self done b reload ts wrote,
     )

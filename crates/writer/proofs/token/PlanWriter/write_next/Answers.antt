@@ -7,7 +7,7 @@ returns c = record {
   count = refl;
   next = refl;
   hyperperiod = c.requires.joins;
-  written = c.write-row.ensures;
+  written = c.write_row.ensures;
   kept = λ reload ts wrote.
-      row_kept c.args.buffer.now c.write-row.new.buffer c.args.self.now _ c.args.task reload ts refl refl c.requires.joins c.requires.keeping c.write-row.ensures wrote;
+      row_kept c.args.buffer.now c.write_row.new.buffer c.args.self.now _ c.args.task reload ts refl refl c.requires.joins c.requires.keeping c.write_row.ensures wrote;
 }
