@@ -10,21 +10,21 @@ use Rattle.schedule.proofs.Calendars.{ahead_counted, behind_counted, number_smal
 use Rattle.schedule.proofs.calendar.Calendar.count_release.Goals as goal
 use Rattle.schedule.specs.Jobs.{release}
 
-pub overflow-add-self : goal.overflow-add-self
-overflow-add-self c =
+pub overflow_add-self : goal.overflow_add-self
+overflow_add-self c =
     let released = eqb-true _ _ c.requires.released in
     let small = number_small (tasks_in c.args.self.now.plan) c.args.task _ _ c.args.self.now.plan.keeping c.requires.place released in
     omega (arith, c.args.self.now.ending)
 
-pub overflow-add-self-2 : goal.overflow-add-self-2
-overflow-add-self-2 c =
+pub overflow_add-self-2 : goal.overflow_add-self-2
+overflow_add-self-2 c =
     let released = eqb-true _ _ c.requires.released in
     let there = c.args.self.now.ahead c.args.task c.requires.place in
     let times = times_at (tasks_in c.args.self.now.plan) c.args.task zero_task c.args.self.now.plan.keeping c.requires.place in
     omega (arith, c.args.self.now.ending, ap (λ ks. (get_or ks c.args.task zero_task).period) c.tasks.ensures.value)
 
-pub invariant-of-self : goal.invariant-of-self
-invariant-of-self c =
+pub invariant_of-self : goal.invariant_of-self
+invariant_of-self c =
     let old = c.args.self.now in
     let j = c.args.task in
     let ks = tasks_in old.plan in

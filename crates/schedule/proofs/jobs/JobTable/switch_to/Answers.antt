@@ -2,8 +2,8 @@ use Rattle.std.proofs.Common.{rules}
 use Rattle.schedule.proofs.Delays.{no_delay_more}
 use Rattle.schedule.proofs.jobs.JobTable.switch_to.Goals as goal
 
-pub returns-then-is-running : goal.returns-then-is-running
-returns-then-is-running g c = search (rules, no_delay_more)
+pub returns-then-is_running : goal.returns-then-is_running
+returns-then-is_running g c = search (rules, no_delay_more)
 
 pub returns-else-self-task : goal.returns-else-self-task
 returns-else-self-task g c = search (rules, no_delay_more)

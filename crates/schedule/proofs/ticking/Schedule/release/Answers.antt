@@ -10,7 +10,7 @@ loop-task-init c = (refl, refl, released_none _ _ _)
 pub loop-task-preserved : goal.loop-task-preserved
 loop-task-preserved c =
     let ts = tasks_in c.args.self.now.calendar.plan in
-    let one : OneReleased (timed ts) c.args.self.now.calendar.clock c.loop-task.task (moment_of c.loop-task.self []) (moment_of c.release-task.new.self []) =
+    let one : OneReleased (timed ts) c.args.self.now.calendar.clock c.loop-task.task (moment_of c.loop-task.self []) (moment_of c.release_task.new.self []) =
     record { slots = cc; next = cc; delays = cc; marks = refl; running = cc } in
     (cc, cc, released_more (timed ts) _ _ _ _ _ c.loop-task.invariant.2 one)
 

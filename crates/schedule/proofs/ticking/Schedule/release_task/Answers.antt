@@ -4,19 +4,19 @@ use Rattle.schedule.proofs.Bounds.{bounded_set}
 use Rattle.schedule.proofs.ticking.Schedule.release_task.Goals as goal
 use Rattle.schedule.specs.Jobs.{vacant}
 
-pub invariant-of-self : goal.invariant-of-self
-invariant-of-self c =
+pub invariant_of-self : goal.invariant_of-self
+invariant_of-self c =
     let old = c.args.self.now in (
       λ i.
           let slots = bounded_set (λ s. s.owed) vacant _ old.jobs.slots c.args.task _ (omega arith) old.owing i in
-          rw (c.enter.ensures.slots, c.count-release-work.ensures.clock) slots,
+          rw (c.enter.ensures.slots, c.count_release-work.ensures.clock) slots,
       (
         λ i.
             let delays = bounded_set (λ n. n) 0 _ old.jobs.delays c.args.task _ (omega arith) old.charging i in
-            rw (c.enter.ensures.delays, c.count-release-work.ensures.clock) delays,
+            rw (c.enter.ensures.delays, c.count_release-work.ensures.clock) delays,
         tt,
       ),
     )
 
-pub returns-else-is-due : goal.returns-else-is-due
-returns-else-is-due c = search (rules, set-get_or)
+pub returns-else-is_due : goal.returns-else-is_due
+returns-else-is_due c = search (rules, set-get_or)

@@ -5,8 +5,8 @@ use Rattle.schedule.proofs.ticking.Schedule.serve.Goals as goal
 use Rattle.schedule.specs.States.{State, slot_of}
 use Rattle.schedule.specs.Tables.{state_of, unruled}
 
-pub invariant-of-self : goal.invariant-of-self
-invariant-of-self g c =
+pub invariant_of-self : goal.invariant_of-self
+invariant_of-self g c =
     let old = c.args.self.now in
     let j = c.args.task in
     let s = unruled (tasks_in old.calendar.plan) (g.M.DelayModel.profile c.args.model.now) in
@@ -14,11 +14,11 @@ invariant-of-self g c =
     let x = state_of old.jobs (g.M.DelayModel.marks c.args.model.now) in (
       λ i.
           let owed = served_owing s small _ j x old.owing i in
-          omega (arith, c.step.ensures.clock, ap (λ (z : State). (slot_of z i).owed) c.serve-task-served.ensures.state),
+          omega (arith, c.step.ensures.clock, ap (λ (z : State). (slot_of z i).owed) c.serve_task-served.ensures.state),
       (
         λ i.
             let delays = charged_small s small _ j old.jobs.delays x old.charging i in
-            omega (arith, c.step.ensures.clock, ap (λ l. get_or l i 0) c.serve-task-served.ensures.delays),
+            omega (arith, c.step.ensures.clock, ap (λ l. get_or l i 0) c.serve_task-served.ensures.delays),
         tt,
       ),
     )
