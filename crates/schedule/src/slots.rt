@@ -1,6 +1,6 @@
 //! The live job of a task.
 
-ghost use Rattle.std.specs.Prelude.{◌≡◌, Decides, nat_eq};
+ghost use Rattle.std.specs.Prelude.{◌≡◌, ◌↔◌, IsTrue, nat_eq};
 ghost use Rattle.schedule.specs.Ticks.{worked};
 ghost use Rattle.std.specs.Ordering.{on, eq_of_both};
 ghost use Rattle.std.specs.Bool.{beq};
@@ -34,7 +34,10 @@ impl PartialEq for Slot {
 
     ghost laws = { Keys.partial_equiv_from_equiv (Prim.search (comparing, rules)) };
 
-    fn eq(&self, other: &Slot) -> bool {
+    fn eq(&self, other: &Slot) -> bool
+        ensures parts { result ≡ eq_of_both (on (λ v. v.live) beq) (eq_of_both (on (λ v. v.left) nat_eq) (eq_of_both (on (λ v. v.owed) nat_eq) (on (λ v. v.begun) beq))) self.now other.now }
+        ensures same { IsTrue result ↔ (self.now ≡ other.now) }
+    {
         self.live == other.live
             && self.left == other.left
             && self.owed == other.owed

@@ -10,4 +10,4 @@ checked_fits None n h = sym (cond-false _ (Some n) None (le-ltb n (2 ^ 64) (omeg
 checked_fits (Some x) n h = ap Some h.1 ∙ sym (cond-true _ (Some n) None (lt-ltb n (2 ^ 64) h.0))
 
 pub returns : goal.returns
-returns c = checked_fits c.checked-add.result _ c.checked-add.ensures ∙ ap (λ w. fitting (w + c.args.delay)) c.from.ensures
+returns c = checked_fits c.checked_add.result _ c.checked_add.ensures ∙ ap (λ w. fitting (w + c.args.delay)) c.from.ensures

@@ -8,11 +8,11 @@ use Rattle.laws.proofs.samples.hyperperiods_on.Goals as goal
 product_small : (c : goal.After-ticks) → c.args.count * c.ticks.result ≤ 12884901885 * 1000000000
 product_small c = mul-le-mul c.requires c.ticks.ensures.bounds.1
 
-pub overflow-mul-result : goal.overflow-mul-result
-overflow-mul-result c = omega (arith, product_small c)
+pub overflow_mul-result : goal.overflow_mul-result
+overflow_mul-result c = omega (arith, product_small c)
 
-pub overflow-add-result : goal.overflow-add-result
-overflow-add-result c = omega (arith, product_small c)
+pub overflow_add-result : goal.overflow_add-result
+overflow_add-result c = omega (arith, product_small c)
 
 pub returns : goal.returns
 returns c =

@@ -31,22 +31,14 @@ invariant_of-self c =
     let place : j < 16 = omega (arith, ap length c.tasks.ensures.value, c.tasks.ensures.few, c.requires.place) in
     let period = c.from.ensures ∙ ap (λ (z : List Task). (get_or z j zero_task).period) c.tasks.ensures.value in
     let deadline = c.from-2.ensures ∙ ap (λ (z : List Task). (get_or z j zero_task).deadline) c.tasks.ensures.value in
-    let times = times_at ks j zero_task old.plan.keeping c.requires.place in (
-      old.ending,
-      (
-        length-set old.next j _ ∙ old.numbered,
-        (
-          length-set old.releases j _ ∙ old.released,
-          (
-            length-set old.deadlines j _ ∙ old.limited,
-            (
-              ahead_counted ks old.next old.releases j _ (omega (arith, old.numbered)) (omega (arith, old.released)) period old.ahead,
-              (
-                behind_counted ks old.next old.deadlines old.clock j _ (omega (arith, old.numbered)) (omega (arith, old.limited)) deadline (eqb-true _ _ c.requires.released) old.behind,
-                (bounded_set (λ n. n) 0 _ old.deadlines j _ (omega arith) old.near, tt),
-              ),
-            ),
-          ),
-        ),
-      ),
-    )
+    let times = times_at ks j zero_task old.plan.keeping c.requires.place in
+    record {
+      ending = old.ending;
+      numbered = length-set old.next j _ ∙ old.numbered;
+      released = length-set old.releases j _ ∙ old.released;
+      limited = length-set old.deadlines j _ ∙ old.limited;
+      ahead = ahead_counted ks old.next old.releases j _ (omega (arith, old.numbered)) (omega (arith, old.released)) period old.ahead;
+      behind =
+          behind_counted ks old.next old.deadlines old.clock j _ (omega (arith, old.numbered)) (omega (arith, old.limited)) deadline (eqb-true _ _ c.requires.released) old.behind;
+      near = bounded_set (λ n. n) 0 _ old.deadlines j _ (omega arith) old.near;
+    }

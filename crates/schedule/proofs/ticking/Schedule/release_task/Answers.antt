@@ -6,17 +6,15 @@ use Rattle.schedule.specs.Jobs.{vacant}
 
 pub invariant_of-self : goal.invariant_of-self
 invariant_of-self c =
-    let old = c.args.self.now in (
-      λ i.
+    let old = c.args.self.now in
+    record {
+      owing = λ i.
           let slots = bounded_set (λ s. s.owed) vacant _ old.jobs.slots c.args.task _ (omega arith) old.owing i in
-          rw (c.enter.ensures.slots, c.count_release-work.ensures.clock) slots,
-      (
-        λ i.
-            let delays = bounded_set (λ n. n) 0 _ old.jobs.delays c.args.task _ (omega arith) old.charging i in
-            rw (c.enter.ensures.delays, c.count_release-work.ensures.clock) delays,
-        tt,
-      ),
-    )
+          rw (c.enter.ensures.slots, c.count_release-work.ensures.clock) slots;
+      charging = λ i.
+          let delays = bounded_set (λ n. n) 0 _ old.jobs.delays c.args.task _ (omega arith) old.charging i in
+          rw (c.enter.ensures.delays, c.count_release-work.ensures.clock) delays;
+    }
 
 pub returns-else-is_due : goal.returns-else-is_due
 returns-else-is_due c = search (rules, set-get_or)

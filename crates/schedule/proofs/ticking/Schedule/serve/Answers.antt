@@ -11,14 +11,12 @@ invariant_of-self g c =
     let j = c.args.task in
     let s = unruled (tasks_in old.calendar.plan) (g.M.DelayModel.profile c.args.model.now) in
     let small = g.met.M.DelayModel.bounded c.args.model.now in
-    let x = state_of old.jobs (g.M.DelayModel.marks c.args.model.now) in (
-      λ i.
+    let x = state_of old.jobs (g.M.DelayModel.marks c.args.model.now) in
+    record {
+      owing = λ i.
           let owed = served_owing s small _ j x old.owing i in
-          omega (arith, c.step.ensures.clock, ap (λ (z : State). (slot_of z i).owed) c.serve_task-served.ensures.state),
-      (
-        λ i.
-            let delays = charged_small s small _ j old.jobs.delays x old.charging i in
-            omega (arith, c.step.ensures.clock, ap (λ l. get_or l i 0) c.serve_task-served.ensures.delays),
-        tt,
-      ),
-    )
+          omega (arith, c.step.ensures.clock, ap (λ (z : State). (slot_of z i).owed) c.serve_task-served.ensures.state);
+      charging = λ i.
+          let delays = charged_small s small _ j old.jobs.delays x old.charging i in
+          omega (arith, c.step.ensures.clock, ap (λ l. get_or l i 0) c.serve_task-served.ensures.delays);
+    }
