@@ -1,5 +1,5 @@
 -- Marks that a call leaves as they are.
-use Rattle.std.proofs.Common.{◌≡◌, ℕ, Bool, true, false, cond, List, get_or, set, sym, refl}
+use Rattle.std.proofs.Common.{◌≡◌, ℕ, Bool, true, false, cond, List, sym, refl}
 use Rattle.std.proofs.lemmas.List.{set-get_or}
 use Rattle.delay.specs.declared.mark.Mark.{Mark}
 use Rattle.delay.specs.Marks.{changed, zero_mark}

@@ -1,5 +1,5 @@
 -- No answer of a model is above 4096.
-use Rattle.std.specs.Prelude.{◌≡◌, ℕ, zero, suc, ◌*◌, ◌/◌, ◌<◌, ◌≤◌, min, Bool, true, cond, List, [], ◌∷◌, ◌==◌, slice_index_or}
+use Rattle.std.specs.Prelude.{◌≡◌, ℕ, zero, suc, ◌*◌, ◌/◌, ◌<◌, ◌≤◌, min, Bool, true, List, [], ◌∷◌, ◌==◌, slice_index_or}
 use Rattle.std.proofs.Math.Nat.{min-le_left}
 use Rattle.std.proofs.Common.{arith, lit<}
 use Rattle.std.proofs.lemmas.Nat.{mul-le}
@@ -9,7 +9,7 @@ use Rattle.plan.specs.Tasks.{all_of, lawful}
 use Rattle.plan.specs.declared.tasks.Task.{Task}
 use Rattle.delay.specs.declared.mark.Mark.{Mark}
 use Rattle.delay.specs.Figures.{zero_task, delay_of}
-use Rattle.delay.specs.Lines.{count_below, missing}
+use Rattle.delay.specs.Lines.{count_below}
 use Rattle.delay.specs.Models.{fixed_delay, lost_sign, useful_blocks, loaded_blocks, to_reload}
 use Rattle.delay.specs.LineLaws.{bit_small}
 

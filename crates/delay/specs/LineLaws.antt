@@ -1,6 +1,6 @@
 -- Masks and counts of bits give the lines that are left and their number.
 use Rattle.std.specs.Prelude.{◌≡◌, ℕ, zero, suc, ◌+◌, ◌-◌, ◌*◌, ◌/◌, ◌%◌, ◌^◌, ◌<◌, ◌≤◌, min, Bool, true, false, cond, not, ◌&&◌, ◌==◌, ◌≢◌, bit_and, refl}
-use Rattle.std.proofs.Common.{⊎_elim, sym, ap, ◌∙◌, pow-suc, add-one, one-add, arith}
+use Rattle.std.proofs.Common.{⊎_elim, sym, ap, ◌∙◌, pow-suc, add-one, arith}
 use Rattle.std.specs.Int.Bits.{and_step, and_zero_l}
 use Rattle.std.specs.Int.Count.{ones, ones_step}
 use Rattle.std.proofs.lemmas.Nat.{shr-shr, shr_below}

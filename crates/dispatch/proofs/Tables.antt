@@ -1,5 +1,5 @@
 -- A table of priorities, filled from the front.
-use Rattle.std.proofs.Common.{◌≡◌, ℕ, ◌+◌, ◌-◌, ◌<◌, ◌≤◌, List, [], ◌∷◌, ◌++◌, map, length, get_or, take, drop, set, replicate, sym, refl, ap, ◌∙◌, arith, length-set, take-append-drop}
+use Rattle.std.proofs.Common.{◌≡◌, ℕ, ◌+◌, ◌-◌, ◌<◌, List, [], ◌∷◌, ◌++◌, map, length, get_or, take, drop, set, replicate, sym, refl, ap, ◌∙◌, arith, length-set, take-append-drop}
 use Rattle.std.proofs.lemmas.List.{drop-drop, drop-replicate, drop-set-lt, map_more, take_all, take_more_set}
 use Rattle.plan.specs.declared.tasks.Task.{Task}
 use Rattle.dispatch.specs.Policies.{priority_table}

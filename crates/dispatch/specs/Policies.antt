@@ -4,7 +4,7 @@
 --     until_at rows i       the ticks until the deadline of task i's live job
 --     fixed_priority ps     the greatest priority among the live tasks, the lowest number among equals
 --     earliest_deadline     the fewest ticks until the deadline, the lowest number among equals
-use Rattle.std.specs.Prelude.{ℕ, ◌-◌, Bool, List, ◌++◌, map, length, replicate, nat_le, slice_index, slice_index_or}
+use Rattle.std.specs.Prelude.{ℕ, ◌-◌, List, ◌++◌, map, length, replicate, nat_le, slice_index, slice_index_or}
 use Rattle.plan.specs.declared.tasks.Task.{Task}
 use Rattle.dispatch.specs.declared.candidates.Candidate.{Candidate}
 use Rattle.dispatch.specs.Rules.{Rule, absent, most_urgent}

@@ -8,7 +8,7 @@ use Rattle.schedule.specs.Jobs.{live_job, shown, vacant}
 use Rattle.schedule.specs.Rows.{finishes, switch_row, switch_row_of}
 use Rattle.schedule.specs.Schedules.{moment, state_at}
 use Rattle.schedule.specs.States.{Moment, Setting, next_of, slot_of, task_of}
-use Rattle.schedule.specs.Ticks.{answered, candidates, delay_to, is_running, released, runs, served, tick}
+use Rattle.schedule.specs.Ticks.{answered, candidates, delay_to, is_running, released, runs, tick}
 use Rattle.laws.specs.Service.{delay_for, delay_in, job_in, on_core, serves}
 use Rattle.laws.specs.Settings.{Admitted}
 use Rattle.laws.proofs.Serving.{charged_other, charged_own, served_other, served_own, worked_slot}

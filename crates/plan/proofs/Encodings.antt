@@ -1,6 +1,6 @@
 -- What the fields of head and rows say of the bytes, whatever stands around them.
-use Rattle.std.proofs.Common.{◌≡◌, ℕ, zero, suc, ◌+◌, ◌-◌, ◌*◌, ◌^◌, ◌<◌, ◌≤◌, Bool, true, false, not, ◌&&◌, eqb, ltb, leb, List, [], ◌∷◌, ◌++◌, map, length, get_or, take, drop, None, Ok, sym, refl, ap, ◌∙◌, subst, ap₂, arith, length-drop}
-use Rattle.bits.proofs.Layouts.{fields_at_part, same_spelled_from_fields, same_bytes, spelled_part, spelled_split}
+use Rattle.std.proofs.Common.{◌≡◌, ℕ, zero, suc, ◌+◌, ◌-◌, ◌*◌, ◌<◌, ◌≤◌, not, eqb, ltb, List, [], ◌∷◌, ◌++◌, length, get_or, None, Ok, sym, refl, ap, ◌∙◌, subst, ap₂, arith, length-drop}
+use Rattle.bits.proofs.Layouts.{fields_at_part, same_spelled_from_fields, same_bytes, spelled_split}
 use Rattle.bits.specs.Bits.{spelled}
 use Rattle.bits.specs.Layouts.{Bytes, fields_at}
 use Rattle.std.proofs.lemmas.List.FromFn.{get_or-map-range_with_len, length-map-range_with_len}

@@ -1,5 +1,5 @@
 -- The first check that is wrong, of two lists after one another.
-use Rattle.std.proofs.Common.{◌≡◌, ℕ, Bool, true, false, cond, List, [], ◌∷◌, ◌++◌, Some, None, Ok, Err, Option, Result, refl, ◌∙◌, arith}
+use Rattle.std.proofs.Common.{◌≡◌, ℕ, Bool, true, false, cond, List, [], ◌∷◌, ◌++◌, Some, None, Ok, Option, refl, ◌∙◌, arith}
 use Rattle.plan.specs.Admission.{unless}
 use Rattle.plan.specs.Checks.{Check, first_wrong}
 

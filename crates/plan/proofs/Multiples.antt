@@ -1,5 +1,5 @@
 -- Euclid's algorithm, and the least common multiple of two numbers.
-use Rattle.std.proofs.Common.{◌≡◌, ℕ, ◌-◌, ◌*◌, ◌/◌, ◌%◌, ◌<◌, ◌≤◌, sym, refl, ap, ◌∙◌, subst, mul_assoc, mul_comm, mul-pos, arith}
+use Rattle.std.proofs.Common.{◌≡◌, ℕ, ◌-◌, ◌*◌, ◌/◌, ◌%◌, ◌<◌, sym, ap, ◌∙◌, subst, mul_assoc, mul_comm, mul-pos, arith}
 use Prim.Native.Nat.{◌∣◌}
 use native.Mathlib.Nat.{dvd_refl, dvd-zero, dvd-mul_left, dvd-mul_right, dvd-mul_left_of_dvd, dvd-mod_iff, dvd-sub, mul-dvd-mul_left, dvd_of_mul-dvd-mul_left, mod-eq-sub-div-mul, mul-sub, pos_of_dvd_of_pos, div-mul_cancel, mul-div_cancel'}
 use Rattle.plan.specs.Periods.{IsGcd, Joins}

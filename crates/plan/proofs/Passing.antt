@@ -1,13 +1,13 @@
 -- Rows that pass: what has to hold of the bytes for admission to find nothing wrong.
-use Rattle.std.proofs.Common.{◌≡◌, ℕ, zero, suc, ◌+◌, ◌*◌, ◌<◌, ◌≤◌, Bool, true, false, cond, not, eqb, ltb, List, [], ◌∷◌, ◌++◌, length, Some, None, Option, sym, refl, ap, ◌∙◌, subst, arith, length-drop}
+use Rattle.std.proofs.Common.{◌≡◌, ℕ, zero, suc, ◌+◌, ◌*◌, ◌<◌, ◌≤◌, Bool, true, false, cond, not, List, [], ◌∷◌, ◌++◌, length, Some, None, Option, sym, refl, ap, ◌∙◌, subst, arith, length-drop}
 use Rattle.std.proofs.lemmas.List.FromFn.{map-range_with_len_more}
 use Rattle.std.proofs.lemmas.List.{map_push}
 use Rattle.std.proofs.lemmas.Bool.{and_parts, and_from, cond-false, eq-eqb, le-ltb, not_from_true, not-true}
 use Rattle.plan.specs.declared.tasks.Task.{Task}
-use Rattle.plan.specs.Admission.{period_checks, row_checks, rows_checks}
+use Rattle.plan.specs.Admission.{row_checks, rows_checks}
 use Rattle.plan.specs.Checks.{first_wrong}
 use Rattle.plan.specs.Layout.{row_bytes, row_of, rows_of, spare_of}
-use Rattle.plan.specs.Periods.{common, common_up_to, hyperperiod_limit}
+use Rattle.plan.specs.Periods.{common, hyperperiod_limit}
 use Rattle.plan.specs.Tasks.{all_of, fits_row, lawful, periods, times_out_of_order, useful_not_evicting, zero_period}
 use Rattle.plan.proofs.Commons.{common_found, common_pushed}
 use Rattle.plan.proofs.RowsLaws.{row_passes}

@@ -1,8 +1,8 @@
 -- What the checks of one row say, and one row more.
-use Rattle.std.proofs.Common.{◌≡◌, ℕ, ◌+◌, ◌*◌, ◌^◌, ◌<◌, ◌≤◌, Bool, true, false, cond, not, ◌&&◌, eqb, ltb, leb, List, [], ◌∷◌, ◌++◌, map, length, Some, None, Ok, Option, sym, refl, ap, ◌∙◌, subst, arith, length-drop}
+use Rattle.std.proofs.Common.{◌≡◌, ℕ, ◌+◌, ◌*◌, ◌^◌, ◌≤◌, true, false, ltb, List, [], ◌∷◌, ◌++◌, length, Some, None, Ok, sym, ap, ◌∙◌, subst, arith, length-drop}
 use Rattle.std.proofs.lemmas.List.FromFn.{map-range_with_len_more}
 use Rattle.std.proofs.lemmas.List.{map_push}
-use Rattle.std.proofs.lemmas.Bool.{and_from, and_parts, lt-ltb, ltb-false, not_from_true, not_from_false, eqb-false, cond-true, cond-false}
+use Rattle.std.proofs.lemmas.Bool.{and_from, lt-ltb, ltb-false, not_from_true, not_from_false, cond-true, cond-false}
 use Rattle.bits.proofs.Fields.{spelled_below_power}
 use Rattle.bits.specs.Bits.{spelled}
 use Rattle.fault.specs.declared.Cause.{Cause}
@@ -12,7 +12,7 @@ use Rattle.plan.specs.declared.tasks.Task.{Task}
 use Rattle.plan.specs.Checks.{first_wrong}
 use Rattle.plan.specs.Flaws.{rule_checks}
 use Rattle.plan.specs.Admission.{byte_checks, period_checks, row_checks, in_row, fault, unless}
-use Rattle.plan.specs.Layout.{task_of, spare_of, row_bytes, row_of, rows_of}
+use Rattle.plan.specs.Layout.{task_of, row_bytes, row_of, rows_of}
 use Rattle.plan.specs.Periods.{common_up_to, hyperperiod_limit, IsLcm, Joins}
 use Rattle.plan.specs.Rows.{RowAdmitted}
 use Rattle.plan.proofs.Commons.{lcm_push, common_found, common_joined}

@@ -1,5 +1,5 @@
 -- The rows of a plan, one after another.
-use Rattle.std.proofs.Common.{◌≡◌, ℕ, zero, suc, ◌+◌, ◌-◌, ◌*◌, ◌<◌, ◌≤◌, max, Bool, true, List, [], ◌∷◌, ◌++◌, map, length, Some, None, sym, refl, ap, ◌∙◌, subst, append_assoc, zero-add, arith}
+use Rattle.std.proofs.Common.{◌≡◌, ℕ, zero, suc, ◌+◌, ◌-◌, ◌<◌, max, Bool, true, List, [], ◌∷◌, ◌++◌, Some, None, sym, refl, ap, ◌∙◌, subst, append_assoc, zero-add, arith}
 use Rattle.std.proofs.lemmas.List.FromFn.{map-range_with_len_more}
 use Rattle.std.proofs.lemmas.List.{map_push}
 use Rattle.std.proofs.lemmas.Bool.{and_from, and_parts}
@@ -7,7 +7,7 @@ use Rattle.std.specs.List.{range_with_len, flat_map}
 use Rattle.fault.specs.declared.Fault.{Fault}
 use Rattle.plan.specs.declared.tasks.Task.{Task}
 use Rattle.plan.specs.Admission.{row_checks, rows_checks}
-use Rattle.plan.specs.Checks.{Check, first_wrong}
+use Rattle.plan.specs.Checks.{first_wrong}
 use Rattle.plan.specs.Layout.{row_of, rows_of}
 use Rattle.plan.specs.Periods.{IsLcm}
 use Rattle.plan.specs.Rows.{RowAdmitted, RowsAdmitted}

@@ -11,7 +11,7 @@
 --     content_in bs                         the content that the bits of bs spell
 --     unless o x                            x where o is none, otherwise the fault o
 --     admission bs                          the content that bs spells, or the fault of the first check that is wrong
-use Rattle.std.specs.Prelude.{ℕ, ◌+◌, ◌*◌, Bool, true, not, List, [], ◌∷◌, ◌++◌, length, Some, None, Ok, Err, Option, Result, ◌==◌, nat_lt}
+use Rattle.std.specs.Prelude.{ℕ, ◌+◌, ◌*◌, not, List, [], ◌∷◌, ◌++◌, length, Some, None, Ok, Err, Option, Result, ◌==◌, nat_lt}
 use Rattle.std.specs.List.{range_with_len, flat_map}
 use Rattle.fault.specs.declared.Cause.{Cause}
 use Rattle.fault.specs.declared.Cause.TheVariants.{EndsEarly, ExtraBytes, UnknownRevision, SpareBitsSet, HyperperiodTooLong}

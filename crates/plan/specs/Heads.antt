@@ -1,6 +1,6 @@
 -- What reading a head gives. Assumes nothing.
 --     HeadOf bs h rest      h is the head that the bytes bs spell, and rest are the bytes after it
-use Rattle.std.specs.Prelude.{◌≡◌, ℕ, ◌<◌, ◌≤◌, List}
+use Rattle.std.specs.Prelude.{◌≡◌, ℕ, List}
 use Rattle.plan.specs.declared.heads.Head.{Head}
 use Rattle.plan.specs.Layout.{count_of, reload_of, body}
 

@@ -1,12 +1,12 @@
 -- The instants that the calendar keeps, as a job is counted.
-use Rattle.std.proofs.Common.{◌≡◌, ℕ, ◌+◌, ◌-◌, ◌*◌, ◌<◌, ◌≤◌, true, ◌≢◌, List, length, get_or, set, sym, refl, ap, ◌∙◌, subst, ⊎_elim, mul-le-mul_left, arith}
+use Rattle.std.proofs.Common.{◌≡◌, ℕ, ◌+◌, ◌<◌, ◌≤◌, true, ◌≢◌, List, length, get_or, set, sym, ap, ◌∙◌, subst, ⊎_elim, mul-le-mul_left, arith}
 use Rattle.std.proofs.lemmas.List.{get_or-set_other, get_or-set_same}
-use Rattle.std.proofs.lemmas.Bool.{cases_eq, eqb-true}
+use Rattle.std.proofs.lemmas.Bool.{cases_eq}
 use Rattle.delay.specs.Figures.{zero_task}
-use Rattle.plan.proofs.TaskTimes.{Times, times_at}
+use Rattle.plan.proofs.TaskTimes.{times_at}
 use Rattle.plan.specs.Tasks.{all_of, lawful}
 use Rattle.plan.specs.declared.tasks.Task.{Task}
-use Rattle.schedule.specs.Jobs.{deadline_at, due, live_job, release}
+use Rattle.schedule.specs.Jobs.{deadline_at, live_job, release}
 
 -- what holds of a changed place and of every other place holds of all
 pub by_place : (P : ℕ → Type 0) (i j : ℕ) → P j → (i ≢ j → P i) → P i

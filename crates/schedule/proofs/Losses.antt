@@ -1,5 +1,5 @@
 -- Losses told one after another.
-use Rattle.std.proofs.Common.{◌≡◌, ℕ, ◌+◌, cond, List, refl, add-one}
+use Rattle.std.proofs.Common.{◌≡◌, ℕ, ◌+◌, cond, add-one}
 use Rattle.delay.specs.Marks.{changed}
 use Rattle.delay.specs.Profiles.{Profile}
 use Rattle.schedule.specs.States.{State}

@@ -1,5 +1,5 @@
 -- What jobs owe, and the delays answered to them, grow by one answer a tick at most.
-use Rattle.std.proofs.Common.{ℕ, ◌+◌, ◌-◌, ◌≤◌, Bool, true, false, cond, eqb, List, get_or, set, Some, arith}
+use Rattle.std.proofs.Common.{ℕ, ◌+◌, ◌≤◌, Bool, true, false, cond, eqb, List, get_or, set, Some, arith}
 use Rattle.std.proofs.lemmas.Bool.{cond_both}
 use Rattle.delay.specs.Marks.{zero_mark}
 use Rattle.delay.specs.Profiles.{Profile}

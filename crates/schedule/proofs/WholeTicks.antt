@@ -1,13 +1,10 @@
 -- The steps of a tick, put together.
-use Rattle.std.proofs.Common.{◌≡◌, ℕ, List, [], Option, sym, ap, ◌∙◌}
+use Rattle.std.proofs.Common.{◌≡◌, ℕ, List, [], Option, ap, ◌∙◌}
 use Rattle.delay.specs.declared.mark.Mark.{Mark}
-use Rattle.plan.specs.Plans.{tasks_in}
 use Rattle.schedule.specs.Rows.{job_row, job_row_of, switch_row, switch_row_of}
-use Rattle.schedule.specs.States.{Moment, Setting, State}
+use Rattle.schedule.specs.States.{Moment, Setting}
 use Rattle.schedule.specs.Tables.{Ticked, moment_of, timed}
 use Rattle.schedule.specs.Ticks.{charged, chosen, released, served, tick}
-use Rattle.schedule.specs.declared.rows.JobRow.{JobRow}
-use Rattle.schedule.specs.declared.rows.SwitchRow.{SwitchRow}
 use Rattle.schedule.specs.declared.rows.TickRows.{TickRows}
 use Rattle.schedule.specs.declared.ticking.Schedule.{Schedule}
 

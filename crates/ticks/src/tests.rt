@@ -2,8 +2,8 @@
 
 use delay::{DelayModel, LoadedBlocks, UsefulBlocks};
 use dispatch::{EarliestDeadline, FixedPriority, NonPreemptive, Policy};
-use row_log::Log;
 use plan::{Plan, admit};
+use row_log::Log;
 use schedule::{JobRow, Schedule, SwitchRow};
 use std::test::Fail;
 

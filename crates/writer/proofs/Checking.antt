@@ -1,5 +1,5 @@
 -- From the checks of a row's place, rules and common period to those of the whole row.
-use Rattle.std.proofs.Common.{◌≡◌, ℕ, ◌^◌, ◌≤◌, true, not, ◌&&◌, ltb, leb, ◌++◌, Some, None, ◌∙◌, arith}
+use Rattle.std.proofs.Common.{◌≡◌, ℕ, ◌^◌, ◌≤◌, true, not, ltb, leb, ◌++◌, Some, None, ◌∙◌}
 use Rattle.std.proofs.lemmas.Bool.{and_parts, cond-false, leb-false, ltb-false, ltb-true, not-false, not_from_true}
 use Rattle.fault.specs.declared.Fault.{Fault}
 use Rattle.plan.proofs.Commons.{common_found, lcm_pair}

@@ -1,14 +1,13 @@
 -- What a buffer holds after a begin and after each row, and that it reads back.
-use Rattle.std.proofs.Common.{◌≡◌, ℕ, zero, suc, ◌+◌, ◌-◌, ◌*◌, ◌<◌, ◌≤◌, true, false, not, eqb, ltb, List, [], ◌∷◌, ◌++◌, map, length, take, drop, None, Ok, sym, refl, ap, ◌∙◌, subst, ⊎_elim, eq-or-lt_of_le, arith, length-drop}
+use Rattle.std.proofs.Common.{◌≡◌, ℕ, zero, suc, ◌+◌, ◌*◌, ◌<◌, ◌≤◌, true, List, [], ◌∷◌, ◌++◌, map, length, take, None, Ok, sym, refl, ap, ◌∙◌, subst, ⊎_elim, eq-or-lt_of_le, arith, length-drop}
 use Rattle.std.proofs.lemmas.List.FromFn.{map-range_with_len_more}
 use Rattle.std.proofs.lemmas.List.{length-take-le, map_push}
 use Rattle.std.proofs.lemmas.Bool.{cond-false, eq-eqb, le-ltb, not_from_true}
 use Rattle.std.specs.List.{range_with_len}
 use Rattle.bits.proofs.Layouts.{fields_at_same, fields_at_take}
-use Rattle.bits.specs.Layouts.{fields_at}
 use Rattle.plan.proofs.AdmissionLaws.{all_passed}
 use Rattle.plan.proofs.Commons.{lcm_none, lcm_push}
-use Rattle.plan.proofs.Encodings.{head_spells, row_at, row_fields, row_spells}
+use Rattle.plan.proofs.Encodings.{head_spells, row_at, row_spells}
 use Rattle.plan.proofs.Passing.{rows_pass}
 use Rattle.plan.proofs.RowsLaws.{all_push}
 use Rattle.plan.specs.declared.tasks.Task.{Task}
@@ -19,7 +18,7 @@ use Rattle.plan.specs.Periods.{IsLcm, Joins, common}
 use Rattle.plan.specs.Tasks.{all_of, lawful, periods}
 use Rattle.writer.specs.declared.token.PlanWriter.{PlanWriter}
 use Rattle.writer.specs.Rules.{whole_bytes}
-use Rattle.writer.specs.Written.{HeadOf, HeadWritten, ReadsBack, RowWritten, Wrote}
+use Rattle.writer.specs.Written.{HeadOf, HeadWritten, RowWritten, Wrote}
 
 pub begun_kept : (before after : List ℕ) (reload : ℕ) (w : PlanWriter) → w.next ≡ 0 → w.hyperperiod.ticks ≡ 1 → whole_bytes w.count ≤ length before → HeadWritten before after w.count reload → Wrote w after reload []
 begun_kept before after reload w n h room written = record {

@@ -1,4 +1,4 @@
-use Rattle.std.proofs.Common.{◌≡◌, ℕ, ◌-◌, ◌^◌, Bool, not, ◌&&◌, ap, ◌∙◌, arith}
+use Rattle.std.proofs.Common.{◌≡◌, ℕ, ◌-◌, ◌^◌, not, ◌&&◌, ap, ◌∙◌, arith}
 use lib.Bits.{bit_and}
 use Rattle.plan.specs.Blocks.{holds}
 use Rattle.delay.specs.Lines.{without}

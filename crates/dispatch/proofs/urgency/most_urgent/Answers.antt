@@ -1,4 +1,4 @@
-use Rattle.std.proofs.Common.{◌≡◌, ℕ, length, sym, refl, ap, ◌∙◌, subst, arith, rules}
+use Rattle.std.proofs.Common.{◌≡◌, ℕ, length, sym, subst, arith}
 use Rattle.dispatch.specs.Urgencies.{Best, best_is}
 use Rattle.dispatch.proofs.urgency.most_urgent.Goals as goal
 

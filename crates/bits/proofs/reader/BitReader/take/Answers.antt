@@ -1,5 +1,5 @@
-use Rattle.std.proofs.Common.{◌≡◌, ℕ, ◌+◌, ◌≤◌, sym, ap, ◌∙◌, arith, rules}
-use Rattle.bits.specs.Bits.{bit, spelled}
+use Rattle.std.proofs.Common.{◌≡◌, ◌+◌, sym, arith, rules}
+use Rattle.bits.specs.Bits.{bit}
 use Rattle.bits.proofs.Fields.{spelled_none, spelled_shift, spelled_below_power}
 use Rattle.bits.proofs.reader.BitReader.take.Goals as goal
 

@@ -1,4 +1,4 @@
-use Rattle.std.proofs.Common.{◌≡◌, ◌<◌, ◌≤◌, List, length, get_or, ap, ◌∙◌, arith, rules}
+use Rattle.std.proofs.Common.{◌<◌, List, length, get_or, ap, ◌∙◌, arith}
 use Rattle.std.proofs.lemmas.List.{length-set}
 use Rattle.std.proofs.lemmas.Bool.{eqb-true}
 use Rattle.delay.specs.Figures.{zero_task}
@@ -8,7 +8,6 @@ use Rattle.plan.specs.declared.tasks.Task.{Task}
 use Rattle.schedule.proofs.Bounds.{bounded_set}
 use Rattle.schedule.proofs.Calendars.{ahead_counted, behind_counted, number_small}
 use Rattle.schedule.proofs.calendar.Calendar.count_release.Goals as goal
-use Rattle.schedule.specs.Jobs.{release}
 
 pub overflow_add-self : goal.overflow_add-self
 overflow_add-self c =

@@ -1,4 +1,4 @@
-use Rattle.std.proofs.Common.{◌≡◌, ℕ, [], length, refl, ap, subst, arith, rules}
+use Rattle.std.proofs.Common.{◌≡◌, ℕ, [], length, refl, ap, subst, arith}
 use Rattle.plan.specs.Plans.{tasks_in}
 use Rattle.schedule.proofs.Releases.{OneReleased, ReleasedTo, released_all, released_more, released_none}
 use Rattle.schedule.proofs.ticking.Schedule.release.Goals as goal

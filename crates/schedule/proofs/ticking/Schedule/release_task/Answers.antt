@@ -1,4 +1,4 @@
-use Rattle.std.proofs.Common.{◌≡◌, sym, arith, rules}
+use Rattle.std.proofs.Common.{arith, rules}
 use Rattle.std.proofs.lemmas.List.{set-get_or}
 use Rattle.schedule.proofs.Bounds.{bounded_set}
 use Rattle.schedule.proofs.ticking.Schedule.release_task.Goals as goal

@@ -1,4 +1,4 @@
-use Rattle.std.proofs.Common.{◌≡◌, ◌≤◌, get_or, ap, arith}
+use Rattle.std.proofs.Common.{get_or, ap, arith}
 use Rattle.plan.specs.Plans.{tasks_in}
 use Rattle.schedule.proofs.Owing.{charged_small, served_owing}
 use Rattle.schedule.proofs.ticking.Schedule.serve.Goals as goal

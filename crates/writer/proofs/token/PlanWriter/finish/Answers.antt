@@ -1,4 +1,4 @@
-use Rattle.std.proofs.Common.{◌≡◌, ℕ, List, take, ap, ◌∙◌, arith, rules}
+use Rattle.std.proofs.Common.{◌≡◌, ℕ, take, ap, ◌∙◌, arith, rules}
 use Rattle.plan.specs.Admission.{admission}
 use Rattle.writer.proofs.Laws.{read_back}
 use Rattle.writer.proofs.token.PlanWriter.finish.Goals as goal
