@@ -4,6 +4,7 @@ use borrow.Rule.Slice.PartMut.{put_mid, post_of}
 use Rattle.std.specs.List.{AllZip}
 use Rattle.std.proofs.lemmas.Nat.{div-mul-add, mod-mul-add}
 use Rattle.std.proofs.lemmas.List.{drop_at, get_or_append_left, get_or-drop, get_or-take, length-take-le}
+use Rattle.std.proofs.lemmas.List.Elements.{All-head, All-tail}
 use Rattle.std.proofs.lemmas.Slice.{drop-put_mid}
 use Rattle.bits.specs.Bits.{bit, spelled}
 use Rattle.bits.specs.Layouts.{total, fields_at, Bytes}
@@ -112,15 +113,19 @@ same_bytes [] [] p q e h = refl
 same_bytes [] (y ∷ ys) p q e h = absurd (omega arith)
 same_bytes (x ∷ xs) [] p q e h = absurd (omega arith)
 same_bytes (x ∷ xs) (y ∷ ys) p q e h =
+    let px = All-head (λ b. b < 256) x xs p in
+    let qy = All-head (λ b. b < 256) y ys q in
+    let pxs = All-tail (λ b. b < 256) x xs p in
+    let qys = All-tail (λ b. b < 256) y ys q in
     let n = 8 * length xs in
     let more : 8 * suc (length xs) ≡ 8 + n = omega arith in
     let whole : spelled (x ∷ xs) 0 (8 + n) ≡ spelled (y ∷ ys) 0 (8 + n) = rw (← more) h in
-    let both : x * 2 ^ n + spelled xs 0 n ≡ y * 2 ^ n + spelled ys 0 n = sym (bytes_split x xs n p.0) ∙ whole ∙ bytes_split y ys n q.0 in
+    let both : x * 2 ^ n + spelled xs 0 n ≡ y * 2 ^ n + spelled ys 0 n = sym (bytes_split x xs n px) ∙ whole ∙ bytes_split y ys n qy in
     let left = spelled_below_power xs 0 n in
     let right = spelled_below_power ys 0 n in
     let first : x ≡ y = sym (div-mul-add x (2 ^ n) _ left) ∙ ap (λ (z : ℕ). z / 2 ^ n) both ∙ div-mul-add y (2 ^ n) _ right in
     let rest : spelled xs 0 n ≡ spelled ys 0 n = sym (mod-mul-add x (2 ^ n) _ left) ∙ ap (λ (z : ℕ). z % 2 ^ n) both ∙ mod-mul-add y (2 ^ n) _ right in
-    ap₂ (λ (v : ℕ) (vs : List ℕ). v ∷ vs) first (same_bytes xs ys p.1 q.1 (omega arith) rest)
+    ap₂ (λ (v : ℕ) (vs : List ℕ). v ∷ vs) first (same_bytes xs ys pxs qys (omega arith) rest)
 
 -- A byte string is determined by the fields of any layout that takes all its bits: an encoding is unique.
 pub fields_determine : (cs bs ws : List ℕ) (n : ℕ) → Bytes cs → Bytes bs → length cs ≡ n → length bs ≡ n → total ws ≡ 8 * n

@@ -2,8 +2,7 @@
 --     total ws               the sum of the widths ws: how many bits their fields take together
 --     fields_at bs at ws     the numbers that fields of these widths spell, one behind another from `at` on
 --     Bytes bs               each number of bs is a byte
-use Rattle.std.specs.Prelude.{ℕ, ◌+◌, ◌<◌, List, [], ◌∷◌}
-use Rattle.std.specs.List.{AllByRecursion as All}
+use Rattle.std.specs.Prelude.{ℕ, ◌+◌, ◌<◌, List, [], ◌∷◌, All}
 use Rattle.bits.specs.Bits.{spelled}
 
 -- The fields of a layout lie side by side.
