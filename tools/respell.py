@@ -3,7 +3,7 @@
 
 usage: python3 tools/respell.py [--plan]       at the top of the repository; --plan prints the renamings and changes nothing
 
-It was run once, right after the toolchain's port.py, on files that nobody had edited since. It goes by whole names:
+It was run right after the toolchain's port.py, and once more when it had learned to see lemmas in sections. It goes by whole names:
 a name that a file of specs/ or proofs/ declares and that has a capital after its first letter, or a dash, is respelled
 wherever it stands in a clause, a definition or a proof, in a comment on one, or between backticks on a page. Code and
 strings keep their text.
