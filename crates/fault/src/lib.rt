@@ -2,7 +2,7 @@
 
 #![tactic(auto)]
 
-ghost use Rattle.std.specs.Prelude.{◌≡◌};
+ghost use Rattle.std.specs.Prelude.{◌≡◌, Some, None};
 ghost use Rattle.fault.specs.Numbers.{letter_of, number_of};
 
 /// Where a refusal arose.
@@ -60,11 +60,45 @@ impl Layer {
     }
 }
 
-impl Cause {
-    /// The number of this cause in a report.
-    pub fn number(self) -> u8
-        ensures { result ≡ number_of self }
+impl From<Cause> for u8 {
+    ghost from_gives = { λ cause number. number ≡ number_of cause };
+
+    /// The number of the cause in a report.
+    fn from(cause: Cause) -> u8 {
+        cause as u8
+    }
+}
+
+impl Fault {
+    /// A refusal that names no place.
+    pub fn new(layer: Layer, cause: Cause) -> Fault
+        ensures { result ≡ record { layer = layer; cause = cause; row = None; bit = None } }
     {
-        self as u8
+        Fault {
+            layer,
+            cause,
+            row: None,
+            bit: None,
+        }
+    }
+
+    /// The same refusal, with its row.
+    pub fn at_row(self, row: u8) -> Fault
+        ensures { result ≡ record { layer = self.layer; cause = self.cause; row = Some row; bit = self.bit } }
+    {
+        Fault {
+            row: Some(row),
+            ..self
+        }
+    }
+
+    /// The same refusal, with the bit at which it lies.
+    pub fn at_bit(self, bit: u64) -> Fault
+        ensures { result ≡ record { layer = self.layer; cause = self.cause; row = self.row; bit = Some bit } }
+    {
+        Fault {
+            bit: Some(bit),
+            ..self
+        }
     }
 }

@@ -3,8 +3,8 @@
 ghost use Rattle.std.specs.Prelude.{◌≡◌};
 ghost use Rattle.plan.specs.Blocks.{within};
 
-/// A set of the 64 lines of the instruction cache. Line 0 is the most significant bit.
-#[derive(Clone, Copy, PartialEq, Eq, Debug)]
+/// A set of the 64 lines of the instruction cache. Line 0 is the most significant bit. The default is the empty set.
+#[derive(Clone, Copy, PartialEq, Eq, Default, Debug)]
 pub struct CacheBlocks {
     pub lines: u64,
 }

@@ -8,7 +8,8 @@ use crate::blocks::CacheBlocks;
 use fault::Cause;
 
 /// A periodic task, as its row in the plan has it. Times are in ticks.
-#[derive(Clone, Copy, PartialEq, Eq, Debug)]
+/// The default has no times and no cache lines.
+#[derive(Clone, Copy, PartialEq, Eq, Default, Debug)]
 pub struct Task {
     pub offset: u32,
     pub period: u32,

@@ -27,16 +27,9 @@ impl<'a, T: Copy> Log<'a, T> {
             (λ x. (number < length (entries self.now)) × (x ≡ slice_index_or (entries self.now) number x))
             (λ e. (e ≡ no_such_entry) × (nat_lt number (length (entries self.now)) ≡ false)) }
     {
-        let rows = &self.rows[0..self.used];
-        if number < rows.len() {
-            Ok(rows[number])
-        } else {
-            Err(Fault {
-                layer: Layer::Run,
-                cause: Cause::NoSuchEntry,
-                row: None,
-                bit: None,
-            })
-        }
+        let rows = &self.rows[..self.used];
+        rows.get(number)
+            .copied()
+            .ok_or(Fault::new(Layer::Run, Cause::NoSuchEntry))
     }
 }

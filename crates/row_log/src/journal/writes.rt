@@ -1,6 +1,6 @@
 //! Opening, writing and clearing a log.
 
-ghost use Rattle.std.specs.Prelude.{◌≡◌, not, [], ◌∷◌, ◌++◌, length, if◌then◌else◌};
+ghost use Rattle.std.specs.Prelude.{◌≡◌, [], ◌∷◌, ◌++◌, length, if◌then◌else◌, Ok, Err};
 ghost use Rattle.row_log.specs.Entries.{entries, full, lender, room};
 
 use super::Log;
@@ -15,19 +15,19 @@ impl<'a, T: Copy> Log<'a, T> {
         Log { rows, used: 0 }
     }
 
-    /// Writes a row behind the others, and says whether one was free.
-    pub fn push(&mut self, row: T) -> bool
-        ensures free { result ≡ not (full self.old) }
-        ensures entries { entries self.new ≡ (if result then entries self.old ++ (row ∷ []) else entries self.old) }
+    /// Writes a row behind the others; or hands it back, where none is free.
+    pub fn push(&mut self, row: T) -> Result<(), T>
+        ensures answer { result ≡ (if full self.old then Err row else Ok tt) }
+        ensures entries { entries self.new ≡ (if full self.old then entries self.old else entries self.old ++ (row ∷ [])) }
         ensures room { room self.new ≡ room self.old }
         ensures lender { lender self.new ≡ lender self.old }
     {
         if self.used < self.rows.len() {
             self.rows[self.used] = row;
             self.used += 1;
-            true
+            Ok(())
         } else {
-            false
+            Err(row)
         }
     }
 
