@@ -20,12 +20,8 @@ pub fn core_ticks(plan: &Plan, row: &JobRow) -> Option<u64>
     ensures law { (rule : Rule) (profile : Profile) → NamesLive rule → Service (setting_of plan.now rule profile) }
 {
     service_law(plan);
-    let tasks = plan.tasks();
-    if row.task < tasks.len() {
-        total(tasks[row.task].work, row.delay)
-    } else {
-        None
-    }
+    let task = plan.tasks().get(row.task)?;
+    total(task.work, row.delay)
 }
 
 /// The sum of work and delay, if it fits.
