@@ -2,33 +2,14 @@
 
 #![tactic(auto)]
 
-ghost use Rattle.std.specs.Prelude.{◌≡◌, drop, Ok, Err, MatchResult};
-ghost use Rattle.order.specs.Orders.{letter_at, unknown_letter, dispatch_of, preemption_of, delay_of, line_end_of, order_of};
+mod letters;
+
+ghost use Rattle.std.specs.Prelude.{◌≡◌, ◌*◌, drop, Ok, Err, IfErr, IfOk, IfSome, IsSomeAnd, MatchResult};
+ghost use Rattle.order.specs.Orders.{letter_at, unknown_letter, order_of};
 
 use fault::{Cause, Fault, Layer};
-
-/// By what the task to run is chosen.
-#[derive(Clone, Copy, PartialEq, Eq, Debug)]
-pub enum Dispatch {
-    FixedPriority,
-    EarliestDeadline,
-}
-
-/// Whether the running job may be interrupted before it is finished.
-#[derive(Clone, Copy, PartialEq, Eq, Debug)]
-pub enum Preemption {
-    Preemptive,
-    NonPreemptive,
-}
-
-/// What a job pays when it goes on after an interruption.
-#[derive(Clone, Copy, PartialEq, Eq, Debug)]
-pub enum DelayKind {
-    NoDelay,
-    FixedDelay,
-    UsefulBlocks,
-    LoadedBlocks,
-}
+use letters::LineEnd;
+pub use letters::{DelayKind, Dispatch, Preemption, UnknownLetter};
 
 /// What an order line asks for.
 #[derive(Clone, Copy, PartialEq, Eq, Debug)]
@@ -45,79 +26,23 @@ pub fn read_order(input: &[u8]) -> Result<(Order, &[u8]), Fault>
         (λ p. (order_of input.now ≡ Ok p.0) × (p.1.now ≡ drop 4 input.now))
         (λ e. order_of input.now ≡ Err e) }
 {
-    let dispatch = dispatch_by(letter_at(input, 0))?;
-    let preemption = preemption_by(letter_at(input, 1))?;
-    let delay = delay_by(letter_at(input, 2))?;
-    line_end(letter_at(input, 3))?;
-    Ok((
-        Order {
-            dispatch,
-            preemption,
-            delay,
-        },
-        &input[4..],
-    ))
+    let order = Order {
+        dispatch: setting(input, 0)?,
+        preemption: setting(input, 1)?,
+        delay: setting(input, 2)?,
+    };
+    setting::<LineEnd>(input, 3)?;
+    Ok((order, &input[4..]))
 }
 
-// A letter past the end is `None`, so that a missing letter goes the way of an unknown one.
-fn letter_at(input: &[u8], place: usize) -> Option<char>
-    ensures { result ≡ letter_at input.now place }
+/// What the letter in this place names. A missing letter goes the way of an unknown one.
+fn setting<T: TryFrom<char, Error = UnknownLetter>>(input: &[u8], place: u8) -> Result<T, Fault>
+    ensures named { IfOk result (λ value. IsSomeAnd (letter_at input.now place) (λ letter. T.try_from_gives letter (Ok value))) }
+    ensures refused { IfErr result (λ fault. (fault ≡ unknown_letter (8 * place)) × IfSome (letter_at input.now place) (λ letter. (e : UnknownLetter) × T.try_from_gives letter (Err e))) }
 {
-    if place < input.len() {
-        Some(char::from(input[place]))
-    } else {
-        None
-    }
-}
-
-fn dispatch_by(letter: Option<char>) -> Result<Dispatch, Fault>
-    ensures { result ≡ dispatch_of letter }
-{
-    match letter {
-        Some('F') => Ok(Dispatch::FixedPriority),
-        Some('E') => Ok(Dispatch::EarliestDeadline),
-        _ => Err(unknown_letter(0)),
-    }
-}
-
-fn preemption_by(letter: Option<char>) -> Result<Preemption, Fault>
-    ensures { result ≡ preemption_of letter }
-{
-    match letter {
-        Some('-') => Ok(Preemption::Preemptive),
-        Some('N') => Ok(Preemption::NonPreemptive),
-        _ => Err(unknown_letter(8)),
-    }
-}
-
-fn delay_by(letter: Option<char>) -> Result<DelayKind, Fault>
-    ensures { result ≡ delay_of letter }
-{
-    match letter {
-        Some('Z') => Ok(DelayKind::NoDelay),
-        Some('A') => Ok(DelayKind::FixedDelay),
-        Some('U') => Ok(DelayKind::UsefulBlocks),
-        Some('L') => Ok(DelayKind::LoadedBlocks),
-        _ => Err(unknown_letter(16)),
-    }
-}
-
-fn line_end(letter: Option<char>) -> Result<(), Fault>
-    ensures { result ≡ line_end_of letter }
-{
-    match letter {
-        Some('\n') => Ok(()),
-        _ => Err(unknown_letter(24)),
-    }
-}
-
-fn unknown_letter(bit: u64) -> Fault
-    ensures { result ≡ unknown_letter bit }
-{
-    Fault {
-        layer: Layer::Order,
-        cause: Cause::UnknownLetter,
-        row: None,
-        bit: Some(bit),
-    }
+    let letter = input.get(usize::from(place)).copied().map(char::from);
+    let refusal = Fault::new(Layer::Order, Cause::UnknownLetter).at_bit(8 * u64::from(place));
+    letter
+        .and_then(|letter| T::try_from(letter).ok())
+        .ok_or(refusal)
 }
