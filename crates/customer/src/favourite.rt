@@ -3,7 +3,7 @@
 ghost use Rattle.customer.specs.Favourites.{favourite};
 ghost use Rattle.std.proofs.Common.{rules};
 
-use dispatch::{Candidate, Policy};
+use dispatch::{Candidate, Policy, is_live};
 
 /// One task whenever its job is live, and otherwise what another policy answers.
 #[derive(Clone, Copy)]
@@ -18,9 +18,10 @@ impl<P: Policy> Policy for Favourite<P> {
     ghost lawful = { Prim.search rules };
 
     fn choose(&self, rows: &[Candidate], running: Option<usize>) -> Option<usize> {
-        if self.task < rows.len() && rows[self.task].live {
-            return Some(self.task);
+        if is_live(rows, self.task) {
+            Some(self.task)
+        } else {
+            self.others.choose(rows, running)
         }
-        self.others.choose(rows, running)
     }
 }

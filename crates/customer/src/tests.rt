@@ -7,21 +7,16 @@ use dispatch::{Candidate, EarliestDeadline, FixedPriority, NonPreemptive, Policy
 use plan::admit;
 use std::test::Fail;
 
-const NONE: Candidate = Candidate {
-    live: false,
-    left: 0,
-    owed: 0,
-    begun: false,
-    until: 0,
-};
+fn none() -> Candidate {
+    Candidate::default()
+}
 
 fn live(until: u32) -> Candidate {
     Candidate {
         live: true,
         left: 1,
-        owed: 0,
-        begun: false,
         until,
+        ..none()
     }
 }
 
@@ -44,9 +39,12 @@ fn fixed_priority_takes_the_greatest_and_the_first_of_equals(rt: HostRuntime) ->
         policy.choose(&[live(1), live(9), live(2)], Some(2)),
         Some(1)
     );
-    assert_eq!(rt; policy.choose(&[live(1), NONE, live(2)], Some(0)), Some(2));
-    assert_eq!(rt; policy.choose(&[live(1), NONE, NONE], None), Some(0));
-    assert_eq!(rt; policy.choose(&[NONE, NONE, NONE], None), None);
+    assert_eq!(rt;
+        policy.choose(&[live(1), none(), live(2)], Some(0)),
+        Some(2)
+    );
+    assert_eq!(rt; policy.choose(&[live(1), none(), none()], None), Some(0));
+    assert_eq!(rt; policy.choose(&[none(), none(), none()], None), None);
     Ok(())
 }
 
@@ -61,10 +59,10 @@ fn earliest_deadline_takes_the_nearest_and_the_first_of_equals(rt: HostRuntime) 
         Some(0)
     );
     assert_eq!(rt;
-        EarliestDeadline.choose(&[NONE, live(7), live(8)], None),
+        EarliestDeadline.choose(&[none(), live(7), live(8)], None),
         Some(1)
     );
-    assert_eq!(rt; EarliestDeadline.choose(&[NONE], Some(0)), None);
+    assert_eq!(rt; EarliestDeadline.choose(&[none()], Some(0)), None);
 }
 
 #[test]
@@ -75,7 +73,7 @@ fn the_layer_keeps_a_live_job(rt: HostRuntime) {
     let twice = NonPreemptive { below: once };
     assert_eq!(rt; once.choose(&[live(1), live(9)], Some(1)), Some(1));
     assert_eq!(rt; twice.choose(&[live(1), live(9)], Some(1)), Some(1));
-    assert_eq!(rt; once.choose(&[live(1), NONE], Some(1)), Some(0));
+    assert_eq!(rt; once.choose(&[live(1), none()], Some(1)), Some(0));
     assert_eq!(rt; once.choose(&[live(1), live(9)], None), Some(0));
     assert_eq!(rt; twice.choose(&[live(1)], Some(16)), Some(0));
 }
@@ -92,8 +90,11 @@ fn a_policy_of_ones_own_stands_under_the_layer(rt: HostRuntime) {
         layered.choose(&[live(1), live(2), live(9)], Some(0)),
         Some(0)
     );
-    assert_eq!(rt; layered.choose(&[NONE, live(2), live(9)], Some(0)), Some(2));
-    assert_eq!(rt; layered.choose(&[NONE, live(2), NONE], None), Some(1));
+    assert_eq!(rt;
+        layered.choose(&[none(), live(2), live(9)], Some(0)),
+        Some(2)
+    );
+    assert_eq!(rt; layered.choose(&[none(), live(2), none()], None), Some(1));
 }
 
 /// The kept lines and the credit of a task's mark.

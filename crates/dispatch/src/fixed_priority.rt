@@ -1,6 +1,7 @@
 //! Fixed priority: the greatest priority first.
 
-ghost use Rattle.std.specs.Prelude.{◌≡◌, ◌≤◌, length, nat_le};
+ghost use Rattle.std.specs.Prelude.{◌≡◌, nat_le, slice_get};
+ghost use Rattle.std.specs.Option.{option_map_or};
 ghost use Rattle.dispatch.specs.Policies.{fixed_priority, priority_at, priority_table};
 ghost use Rattle.plan.specs.Plans.{tasks_in};
 ghost use Rattle.std.proofs.Common.{rules};
@@ -10,12 +11,12 @@ use crate::candidates::Candidate;
 use crate::policy::Policy;
 use crate::urgency::{Urgency, most_urgent};
 use plan::{MOST_TASKS, Plan, Task};
+use std::array;
 
 /// The greatest priority among the live tasks, the lowest task number among equals.
 #[derive(Clone, Copy)]
 pub struct FixedPriority {
     priorities: [u8; MOST_TASKS],
-    ghost sized: { length priorities ≡ 16 },
 }
 
 impl FixedPriority {
@@ -23,32 +24,23 @@ impl FixedPriority {
     pub fn new(plan: &Plan) -> Self
         ensures { result.priorities ≡ priority_table (tasks_in plan.now) }
     {
-        let priorities = priority_table(plan.tasks());
+        let tasks = plan.tasks();
+        let priorities = array::from_fn(|task| priority_in(tasks, task));
         FixedPriority { priorities }
     }
 
     fn priority(&self, task: usize) -> u8
         ensures { result ≡ priority_at self.now.priorities task }
     {
-        if task < MOST_TASKS {
-            self.priorities[task]
-        } else {
-            0
-        }
+        self.priorities.get(task).copied().unwrap_or(0)
     }
 }
 
-/// A priority for each place of the table: that of its task, or 0.
-fn priority_table(tasks: &[Task]) -> [u8; MOST_TASKS]
-    requires { length tasks.now ≤ 16 }
-    ensures value { result ≡ priority_table tasks.now }
-    ensures size { length result ≡ 16 }
+/// The priority of this task, or 0 past the last one.
+fn priority_in(tasks: &[Task], task: usize) -> u8
+    ensures { result ≡ option_map_or (λ t. t.priority) (slice_get tasks.now task) 0 }
 {
-    let mut priorities = [0; MOST_TASKS];
-    for (i, task) in tasks.iter().enumerate() {
-        priorities[i] = task.priority;
-    }
-    priorities
+    tasks.get(task).map_or(0, |task| task.priority)
 }
 
 impl Urgency for FixedPriority {

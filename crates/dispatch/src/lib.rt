@@ -9,7 +9,7 @@ mod non_preemptive;
 mod policy;
 mod urgency;
 
-pub use candidates::Candidate;
+pub use candidates::{Candidate, is_live};
 pub use earliest_deadline::EarliestDeadline;
 pub use fixed_priority::FixedPriority;
 pub use non_preemptive::NonPreemptive;

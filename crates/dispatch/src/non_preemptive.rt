@@ -3,7 +3,7 @@
 ghost use Rattle.dispatch.specs.Rules.{keeping};
 ghost use Rattle.std.proofs.Common.{rules};
 
-use crate::candidates::Candidate;
+use crate::candidates::{Candidate, is_live};
 use crate::policy::Policy;
 
 /// The running task while its job is live; otherwise what the policy below answers.
@@ -18,11 +18,8 @@ impl<P: Policy> Policy for NonPreemptive<P> {
     ghost lawful = { Prim.search rules };
 
     fn choose(&self, rows: &[Candidate], running: Option<usize>) -> Option<usize> {
-        if let Some(task) = running {
-            if task < rows.len() && rows[task].live {
-                return running;
-            }
-        }
-        self.below.choose(rows, running)
+        running
+            .filter(|task| is_live(rows, *task))
+            .or_else(|| self.below.choose(rows, running))
     }
 }
