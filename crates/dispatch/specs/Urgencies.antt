@@ -1,5 +1,13 @@
--- The most urgent task, found one task after another.
-use Rattle.std.specs.Prelude.{◌≡◌, ℕ, zero, suc, ◌+◌, ◌<◌, ◌≤◌, Bool, true, false, cond, not, ◌||◌, List, length, Some, None, Option, refl}
+-- The most urgent task, found one task after another. Lemmas; assumes nothing.
+--     first_none, first_some     where no number passes the test, and where one passes that none before it does
+--     first_passes               the number that first_such names passes the test
+--     Best n o                   o is the most urgent of the tasks below n, None where none of them is live
+--     best_more                  so it stays with one task more, by better
+--     best_is                    the best of all rows is most_urgent
+--     found_one_by_one           most_urgent is better from the first task to the last
+--     most_urgent_live           most_urgent names only a task with a live job
+use Rattle.std.specs.Prelude.{◌≡◌, ℕ, zero, suc, ◌+◌, ◌<◌, ◌≤◌, Bool, true, false, cond, not, ◌||◌, List, length, Some, None, Option, fold, refl}
+use Rattle.std.specs.List.{range_with_len}
 use Rattle.std.proofs.Common.{sym, ap, subst, ◌∙◌, eq-or-lt_of_le, arith}
 use Rattle.std.proofs.Math.Logic.{⊎_elim}
 use Rattle.std.proofs.lemmas.Bool.{and_from, and_left, and_right, both_ways, cases_Bool, cond-false, cond-true, not_from_true, or_cases, or_from, or_left, or_right, and_parts}
@@ -100,6 +108,10 @@ module _ (urgent : ℕ → ℕ → Bool) (rows : List Candidate) where
         h.3,
       )
 
+    best_after : (i n m : ℕ) (o : Option ℕ) → i + n ≡ m → Best i o → Best m (fold (better urgent rows) o (range_with_len i n))
+    best_after i zero m o e h = subst (λ (z : ℕ). Best z o) (omega (arith, e)) h
+    best_after i (suc n) m o e h = best_after (i + 1) n m (better urgent rows o i) (omega (arith, e)) (best_more i o h)
+
   pub best_is : (o : Option ℕ) → Best (length rows) o → most_urgent urgent rows ≡ o
   unfolding most_urgent
   best_is None h = first_none (length rows) _ (λ k l. and_left (live_at rows k) _ (h k l))
@@ -119,6 +131,12 @@ module _ (urgent : ℕ → ℕ → Bool) (rows : List Candidate) where
       (every_fails (length rows) b _ h.0 (or_from (not (live_at rows b)) (urgent k b) (not_from_true (live_at rows b) h.1) (h.3 k l live))))
       (λ dead. and_left (live_at rows k) _ dead)
       (cases_Bool (live_at rows k)))
+
+-- by the two laws of an order of urgency
+pub found_one_by_one : (urgent : ℕ → ℕ → Bool) (rows : List Candidate) → ((i k : ℕ) → (urgent i k || urgent k i) ≡ true) → ((i j k : ℕ) → urgent i j ≡ true → urgent j k ≡ true → urgent i k ≡ true) → fold (better urgent rows) None (range_with_len 0 (length rows)) ≡ most_urgent urgent rows
+found_one_by_one urgent rows total through =
+    let n = length rows in
+    sym (best_is urgent rows _ (best_after urgent rows total through 0 n n None (omega arith) (λ k l. absurd (omega arith))))
 
 pub most_urgent_live : (urgent : ℕ → ℕ → Bool) (rows : List Candidate) (j : ℕ) → most_urgent urgent rows ≡ Some j → live_at rows j ≡ true
 unfolding most_urgent

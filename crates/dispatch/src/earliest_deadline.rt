@@ -1,6 +1,6 @@
 //! Earliest deadline first.
 
-ghost use Rattle.std.specs.Prelude.{nat_le};
+ghost use Rattle.std.specs.Prelude.{◌≡◌, nat_le};
 ghost use Rattle.dispatch.specs.Policies.{earliest_deadline, until_at};
 ghost use Rattle.std.proofs.Common.{rules};
 ghost use Rattle.dispatch.specs.Urgencies.{most_urgent_live};
@@ -13,6 +13,13 @@ use crate::urgency::{Urgency, most_urgent};
 #[derive(Clone, Copy)]
 pub struct EarliestDeadline;
 
+/// The ticks until the deadline of a task's live job.
+fn until(rows: &[Candidate], task: usize) -> u32
+    ensures { result ≡ until_at rows.now task }
+{
+    rows.get(task).map_or(0, |row| row.until)
+}
+
 impl Urgency for EarliestDeadline {
     ghost urgent = { λ u rows i k. nat_le (until_at rows i) (until_at rows k) };
 
@@ -21,7 +28,7 @@ impl Urgency for EarliestDeadline {
     ghost through = { Prim.search rules };
 
     fn at_least(&self, rows: &[Candidate], first: usize, second: usize) -> bool {
-        rows[first].until <= rows[second].until
+        until(rows, first) <= until(rows, second)
     }
 }
 

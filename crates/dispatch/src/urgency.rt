@@ -4,7 +4,7 @@ ghost use Rattle.std.specs.Prelude.{◌≡◌, ℕ, ◌<◌, Bool, true, ◌||�
 ghost use Rattle.dispatch.specs.declared.candidates.Candidate.{Candidate};
 ghost use Rattle.dispatch.specs.Rules.{better, most_urgent};
 
-use crate::candidates::Candidate;
+use crate::candidates::{Candidate, is_live};
 
 /// An order of urgency among the tasks that are shown.
 pub(crate) trait Urgency {
@@ -12,7 +12,6 @@ pub(crate) trait Urgency {
     ghost urgent: { Self → List Candidate → ℕ → ℕ → Bool };
 
     fn at_least(&self, rows: &[Candidate], first: usize, second: usize) -> bool
-        requires { (first < length rows.now) × (second < length rows.now) }
         ensures { result ≡ urgent self.now rows.now first second };
 
     /// Of two tasks one is at least as urgent as the other.
@@ -25,11 +24,7 @@ pub(crate) trait Urgency {
 pub(crate) fn most_urgent<U: Urgency>(by: &U, rows: &[Candidate]) -> Option<usize>
     ensures { result ≡ most_urgent (U.urgent by.now rows.now) rows.now }
 {
-    let mut best = None;
-    for task in 0..rows.len() {
-        best = better_of(by, rows, best, task);
-    }
-    best
+    (0..rows.len()).fold(None, |best, task| better_of(by, rows, best, task))
 }
 
 /// The more urgent of the best so far and one task more.
@@ -39,20 +34,11 @@ fn better_of<U: Urgency>(
     best: Option<usize>,
     task: usize,
 ) -> Option<usize>
-    requires { (task < length rows.now) × (IfSome best (λ b. b < length rows.now)) }
     ensures { result ≡ better (U.urgent by.now rows.now) rows.now best task }
 {
-    if !rows[task].live {
-        return best;
-    }
     match best {
-        Some(first) => {
-            if by.at_least(rows, first, task) {
-                best
-            } else {
-                Some(task)
-            }
-        }
-        None => Some(task),
+        _ if !is_live(rows, task) => best,
+        Some(first) if by.at_least(rows, first, task) => best,
+        _ => Some(task),
     }
 }

@@ -1,9 +1,14 @@
-use Rattle.std.proofs.Common.{◌≡◌, ℕ, length, sym, subst, arith}
-use Rattle.dispatch.specs.Urgencies.{Best, best_is}
+use Rattle.std.proofs.Common.{◌∙◌, length, None, arith, refl, rules}
+use Rattle.std.proofs.lemmas.Iterator.{YieldsList-from_range}
+use Rattle.std.proofs.lemmas.Iterator.Consumers.{fold_from_yields_List}
+use Rattle.dispatch.specs.Rules.{better}
+use Rattle.dispatch.specs.Urgencies.{found_one_by_one}
 use Rattle.dispatch.proofs.urgency.most_urgent.Goals as goal
 
 pub returns : goal.returns
 returns g c =
-    let urgent = g.U.Urgency.urgent c.args.by.now c.args.rows.now in
-    let all : c.loop-task.task ≡ length c.args.rows.now = omega arith in
-    sym (best_is urgent c.args.rows.now c.loop-task.best (subst (λ (n : ℕ). Best urgent c.args.rows.now n c.loop-task.best) all c.loop-task.invariant))
+    let rows = c.args.rows.now in
+    let urgent = g.U.Urgency.urgent c.args.by.now rows in
+    let law = g.met.U.Urgency in
+    fold_from_yields_List _ (better urgent rows) None c.fold.result c.fold.ensures.ran (YieldsList-from_range 0 (length rows) (length rows) refl (omega arith)) (λ a x b q k. search rules)
+    ∙ found_one_by_one urgent rows (law.total c.args.by.now rows) (law.through c.args.by.now rows)
