@@ -1,6 +1,6 @@
 //! The most urgent of the live tasks, for any order of urgency.
 
-ghost use Rattle.std.specs.Prelude.{◌≡◌, ℕ, ◌<◌, Bool, true, ◌||◌, List, length, IfSome};
+ghost use Rattle.std.specs.Prelude.{◌≡◌, ℕ, Bool, true, ◌||◌, List};
 ghost use Rattle.dispatch.specs.declared.candidates.Candidate.{Candidate};
 ghost use Rattle.dispatch.specs.Rules.{better, most_urgent};
 
