@@ -6,7 +6,7 @@
 ghost use Rattle.std.specs.Prelude.{◌<◌, IfSome};
 
 use anyhow::anyhow;
-use report::{LONGEST_REPORT, report_on};
+use report::{LONGEST_REPORT, whole_report};
 use std::alloc::{AllocError, Global};
 use std::io::{BufRead, BufReader, Write};
 
@@ -24,11 +24,11 @@ fn digit(letter: u8) -> Option<u8>
 /// The bytes that pairs of hexadecimal digits spell, up to the first pair that is none.
 fn unhex(heap: Global, digits: &[u8]) -> Result<Vec<u8>, AllocError> {
     let mut bytes = Vec::new(heap);
-    for i in 0..digits.len() / 2 {
-        match (digit(digits[2 * i]), digit(digits[2 * i + 1])) {
-            (Some(high), Some(low)) => bytes.push(16 * high + low)?,
-            _ => return Ok(bytes),
-        }
+    for pair in digits.chunks_exact(2) {
+        let (Some(high), Some(low)) = (digit(pair[0]), digit(pair[1])) else {
+            break;
+        };
+        bytes.push(16 * high + low)?;
     }
     Ok(bytes)
 }
@@ -40,10 +40,8 @@ fn answer(rt: &HostRuntime, line: &str) -> anyhow::Result<()> {
     let input = unhex(rt.alloc(), digits.as_bytes())?;
     rt.println(name)?;
     let mut out = [0; LONGEST_REPORT];
-    match report_on(input.as_slice(), &mut out) {
-        Ok(length) => rt.stdout().write_all(&out[0..length])?,
-        Err(_) => unreachable(),
-    }
+    rt.stdout()
+        .write_all(whole_report(input.as_slice(), &mut out))?;
     Ok(())
 }
 

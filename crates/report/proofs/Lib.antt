@@ -1,5 +1,3 @@
+mod Taking
 mod Puts
-mod Digits
-mod Words
-mod Rooms
-mod Tasks
+mod Sinks

@@ -1,12 +1,10 @@
 -- What the functions that write into a lent buffer cite. Assumes nothing.
 --     Put at text before after end            the text was put at a place of the buffer, and nothing else was touched
---     Leaves room most text r                 what is left of the room after the text, None where it does not fit; a room of `most` is enough
 --     buffer_too_short                        the refusal of a buffer that has no room for the whole text
 --     Whole text before after n               the text stands at the front of the buffer, and n is its length
 --     Untouched most text before after e      the text does not fit, and the buffer is as it was
 --     Written most text before after r        the one or the other: all of the text is written, or nothing
-use Rattle.std.specs.Prelude.{◌≡◌, ℕ, ◌+◌, ◌<◌, ◌≤◌, List, ◌++◌, length, take, drop, None, Option, Result}
-use Rattle.std.specs.Option as options
+use Rattle.std.specs.Prelude.{◌≡◌, ℕ, ◌+◌, ◌<◌, ◌≤◌, List, ◌++◌, length, take, drop, None, Result}
 use Rattle.std.specs.Result as results
 use Rattle.fault.specs.declared.Fault.{Fault}
 use Rattle.fault.specs.declared.Layer.TheVariants.{Run}
@@ -17,13 +15,6 @@ pub record Put (at : ℕ) (text before after : List ℕ) (end : ℕ) : Type 0 wh
   pub place : end ≡ at + length text
   pub front : take end after ≡ take at before ++ text
   pub rest : drop end after ≡ drop end before
-
--- The length of the text is taken off the room, so that no sum of lengths is ever made.
-abbrev pub Leaves : ℕ → ℕ → List ℕ → Option ℕ → Type 0
-Leaves room most text r =
-    options.MatchOption r
-    ((room < length text) × (room < most))
-    (λ left. (left + length text ≡ room) × (length text ≤ most))
 
 -- The refusal names no row and no bit.
 abbrev pub buffer_too_short : Fault

@@ -1,4 +1,6 @@
 pub mod Buffers
 pub mod Words
+pub mod Sinks
 pub mod Reports
+pub mod Texts
 pub mod Inputs

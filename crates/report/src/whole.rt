@@ -7,13 +7,24 @@ ghost use Rattle.report.specs.Inputs.{longest_report, opening_text, ordered, rep
 
 use crate::refusal::write_refusal;
 use crate::standing::{Standing, write_standing};
-use crate::summary::UNTOUCHED;
+use crate::summary::Summary;
 use fault::Fault;
 use order::read_order;
 use plan::{MOST_TASKS, Plan, admit};
 
 /// No report has more bytes.
 pub const LONGEST_REPORT: usize = 1428;
+
+/// The report of an input, in a buffer that has room for each.
+pub fn whole_report<'a>(input: &[u8], out: &'a mut [u8; LONGEST_REPORT]) -> &'a [u8]
+    ensures { result.now ≡ report_text input.now }
+{
+    match report_on(input, out) {
+        Ok(length) => &out[..length],
+        // only a buffer that is too short is refused
+        Err(_) => unreachable(),
+    }
+}
 
 /// Writes the report of an input, and answers its length. A buffer that is too short for it is left as it was.
 pub fn report_on(input: &[u8], out: &mut [u8]) -> Result<usize, Fault>
@@ -38,7 +49,7 @@ fn planned(input: &[u8]) -> Result<Plan, Fault>
 fn write_opening(plan: &Plan, out: &mut [u8]) -> Result<usize, Fault>
     ensures { Written longest_report (opening_text (content_of plan.now)) out.old out.new result }
 {
-    let summaries = [UNTOUCHED; MOST_TASKS];
+    let summaries = [Summary::default(); MOST_TASKS];
     let count = plan.tasks().len();
-    write_standing(out, Standing::Open { instant: 0 }, &summaries[0..count])
+    write_standing(out, Standing::Open { instant: 0 }, &summaries[..count])
 }

@@ -1,15 +1,15 @@
 //! The words of a report.
 
-ghost use Rattle.std.specs.Prelude.{◌≡◌, ◌+◌, ◌≤◌, length};
-ghost use Rattle.report.specs.Buffers.{Put};
+ghost use Rattle.std.specs.Prelude.{length};
+ghost use Rattle.report.specs.Sinks.{Takes};
 ghost use Rattle.report.specs.Words.{text_of};
 
-use crate::buffer::{put_byte, put_bytes};
-use crate::decimal::{decimal_width, put_decimal};
+use crate::sink::Sink;
 use fault::Layer;
+use itoa::Buffer;
 
 /// One word of a line.
-#[derive(Clone, Copy)]
+#[derive(Clone, Copy, PartialEq, Eq, Debug)]
 pub(crate) enum Word {
     Open,
     Refused,
@@ -18,29 +18,15 @@ pub(crate) enum Word {
     Absent,
 }
 
-// The bytes that a word takes: at most the twenty digits of a number.
-pub(crate) fn word_width(word: Word) -> usize
-    ensures value { result ≡ length (text_of word) }
-    ensures bound { result ≤ 20 }
+// No word is longer than the twenty digits of a number.
+pub(crate) fn put_word<S: Sink>(sink: &mut S, word: Word)
+    ensures { Takes S.took 20 (text_of word) sink.old sink.new }
 {
     match word {
-        Word::Open => b"OPEN".len(),
-        Word::Refused => b"REFUSED".len(),
-        Word::Number(n) => decimal_width(n),
-        Word::Layer(_) => 1,
-        Word::Absent => 1,
-    }
-}
-
-pub(crate) fn put_word(out: &mut [u8], at: usize, word: Word) -> usize
-    requires { at + length (text_of word) ≤ length out.old }
-    ensures { Put at (text_of word) out.old out.new result }
-{
-    match word {
-        Word::Open => put_bytes(out, at, b"OPEN"),
-        Word::Refused => put_bytes(out, at, b"REFUSED"),
-        Word::Number(n) => put_decimal(out, at, n),
-        Word::Layer(layer) => put_byte(out, at, layer.letter()),
-        Word::Absent => put_byte(out, at, b'-'),
+        Word::Open => sink.put(b"OPEN"),
+        Word::Refused => sink.put(b"REFUSED"),
+        Word::Number(n) => sink.put(Buffer::new().format(n).as_bytes()),
+        Word::Layer(layer) => sink.put(&[layer.letter()]),
+        Word::Absent => sink.put(b"-"),
     }
 }

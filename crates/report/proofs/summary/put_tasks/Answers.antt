@@ -1,15 +1,22 @@
-use Rattle.std.proofs.Common.{arith}
-use Rattle.report.proofs.Puts.{up_to_more, up_to_all, up_to_room}
-use Rattle.report.proofs.Tasks.{next_task, next_task_length, no_task}
+use Rattle.std.proofs.Common.{get_or, List, arith}
+use Rattle.std.proofs.lemmas.List.{at_drop_more, at_drop_all}
+use Rattle.report.specs.declared.summary.Summary.{Summary}
+use Rattle.report.specs.Inputs.{untouched}
+use Rattle.report.specs.Reports.{task_line, task_lines}
+use Rattle.report.specs.Sinks.{Takes}
+use Rattle.report.proofs.Taking.{up_to_none, up_to_more, up_to_all}
 use Rattle.report.proofs.summary.put_tasks.Goals as goal
 
-pub put_task-end-requires : goal.put_task-end-requires
-put_task-end-requires c =
-    omega (arith, up_to_room c.loop-task.invariant, next_task_length c.args.summaries.now c.loop-task.task (omega arith))
+pub loop-task-init : goal.loop-task-init
+loop-task-init g c = up_to_none _ _
 
 pub loop-task-preserved : goal.loop-task-preserved
-loop-task-preserved c =
-    up_to_more _ _ (next_task c.args.summaries.now c.loop-task.task (omega arith)) c.loop-task.invariant c.put_task-end.ensures
+loop-task-preserved g c =
+    let line : Takes g.S.Sink.took 84 (task_line c.loop-task.task (get_or c.args.summaries.now c.loop-task.task untouched)) c.loop-task.sink c.put_line.new.sink =
+    rw c.task_words.ensures at c.put_line.ensures in
+    up_to_more c.loop-task.invariant line
+    (at_drop_more (λ (z : List Summary). task_lines c.loop-task.task z) c.args.summaries.now c.loop-task.task untouched (omega arith)) (omega arith)
 
 pub returns : goal.returns
-returns c = up_to_all (no_task c.args.summaries.now c.loop-task.task (omega arith)) c.loop-task.invariant
+returns g c =
+    up_to_all _ c.loop-task.invariant (at_drop_all (λ (z : List Summary). task_lines c.loop-task.task z) c.args.summaries.now c.loop-task.task (omega arith)) (omega arith)

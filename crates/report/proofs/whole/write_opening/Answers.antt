@@ -1,4 +1,4 @@
-use Rattle.std.proofs.Common.{◌≡◌, ℕ, ◌+◌, ◌-◌, ◌*◌, ◌≤◌, List, length, replicate, ap, ◌∙◌, subst, arith, length-take}
+use Rattle.std.proofs.Common.{◌≡◌, ℕ, ◌+◌, ◌*◌, ◌≤◌, List, length, take, replicate, ap, ◌∙◌, subst, rules, arith, length-take}
 use lib.ListN.{length-replicate}
 use Rattle.std.proofs.lemmas.List.{take-replicate}
 use Rattle.plan.specs.Plans.{tasks_in}
@@ -7,7 +7,7 @@ use Rattle.report.specs.declared.summary.Summary.{Summary}
 use Rattle.report.specs.Buffers.{Written}
 use Rattle.report.specs.Inputs.{untouched}
 use Rattle.report.specs.Reports.{opened_text}
-use Rattle.report.proofs.Rooms.{written_within}
+use Rattle.report.proofs.Puts.{written_within}
 use Rattle.report.proofs.whole.write_opening.Goals as goal
 
 pub returns : goal.returns
@@ -15,7 +15,9 @@ returns c =
     let plan = c.args.plan.now in
     let counted : length c.tasks-count.result.now ≡ length (tasks_in plan) = ap length c.tasks-count.ensures in
     let few : length (tasks_in plan) ≤ 16 = omega (arith, length-take plan.count plan.tasks, plan.counted) in
-    let end : length c.tasks-count.result.now - 0 ≡ length (tasks_in plan) = omega arith in
-    let same = take-replicate (length c.tasks-count.result.now - 0) 16 untouched (omega arith) ∙ ap (λ (z : ℕ). replicate z untouched) end in
+    let new : c.default-summaries.result ≡ untouched = search rules in
+    let same : take (length c.tasks-count.result.now) (replicate 16 c.default-summaries.result) ≡ replicate (length (tasks_in plan)) untouched =
+    ap (λ (z : Summary). take (length c.tasks-count.result.now) (replicate 16 z)) new
+    ∙ (take-replicate (length c.tasks-count.result.now) 16 untouched (omega arith) ∙ ap (λ (z : ℕ). replicate z untouched) counted) in
     written_within _ 1428 _ _ _ _ (omega (arith, length-replicate (length (tasks_in plan)) untouched))
     (subst (λ (z : List Summary). Written (84 * length z + 84) (opened_text (Open 0) z) c.args.out.now c.write_standing.new.out c.write_standing.result) same c.write_standing.ensures)

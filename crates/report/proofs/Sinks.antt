@@ -1,0 +1,38 @@
+-- What each sink does with a whole text. Assumes nothing.
+use Rattle.std.proofs.Common.{ℕ, List, [], ◌++◌, Some, None, Option, sym, refl, ◌∙◌, arith, length-append}
+use Rattle.std.proofs.lemmas.Option.{none-some}
+use Rattle.report.specs.declared.sink.lent.Lent.{Lent}
+use Rattle.report.specs.declared.sink.room.Room.{Room}
+use Rattle.report.specs.Sinks.{TookAll, Leaves, Measured, Wrote}
+use Rattle.report.specs.Sinks.TookAll.{nothing, further}
+use Rattle.report.proofs.Puts.{put_none, put_then}
+
+leaves_nothing : (room : Option ℕ) → Leaves room [] room
+leaves_nothing None = refl
+leaves_nothing (Some n) = omega arith
+
+leaves_then : (room mid left : Option ℕ) (a b : List ℕ) → Leaves room a mid → Leaves mid b left → Leaves room (a ++ b) left
+leaves_then None None left a b p q = q
+leaves_then None (Some m) left a b p q = absurd (none-some m (sym p))
+leaves_then (Some n) None None a b p q = omega (arith, length-append a b, p)
+leaves_then (Some n) None (Some l) a b p q = absurd (none-some l (sym q))
+leaves_then (Some n) (Some m) None a b p q = omega (arith, length-append a b, p, q)
+leaves_then (Some n) (Some m) (Some l) a b p q = omega (arith, length-append a b, p, q)
+
+-- a text is measured as one piece would be
+pub measured_all : {text : List ℕ} {before after : Room} → TookAll Measured before text after → Measured before text after
+measured_all {before = s} nothing = leaves_nothing s.left
+measured_all {before = s} {after = u} (further {t = t} {text = a} {piece = b} p q) = leaves_then s.left t.left u.left a b (measured_all p) q
+
+-- a text is written as one piece would be
+pub wrote_all : {text : List ℕ} {before after : Lent} → TookAll Wrote before text after → Wrote before text after
+wrote_all {before = s} nothing = record { put = λ h. put_none s.at s.out.now; size = refl; lender = refl }
+wrote_all (further {text = a} {piece = b} p q) =
+    let done = wrote_all p in
+    record {
+      put = λ h.
+          let first = done.put (omega (arith, h, length-append a b)) in
+          put_then first (q.put (omega (arith, h, length-append a b, first.place, done.size)));
+      size = q.size ∙ done.size;
+      lender = q.lender ∙ done.lender;
+    }

@@ -1,0 +1,18 @@
+use Rattle.std.proofs.Common.{length, ap, rules, arith}
+use Rattle.report.proofs.Taking.{takes_piece}
+use Rattle.report.proofs.word.put_word.Goals as goal
+
+pub returns-in-Open : goal.returns-in-Open
+returns-in-Open g c = takes_piece c.put.ensures (search rules) (omega arith)
+
+pub returns-in-Refused : goal.returns-in-Refused
+returns-in-Refused g c = takes_piece c.put-in-Refused.ensures (search rules) (omega arith)
+
+pub returns-in-Number : goal.returns-in-Number
+returns-in-Number g c = takes_piece c.put-in-Number.ensures (search rules) (omega (arith, c.format.ensures.fits, ap length c.as_bytes.ensures.value))
+
+pub returns-in-Layer : goal.returns-in-Layer
+returns-in-Layer g c = takes_piece c.put-in-Layer.ensures (search rules) (omega arith)
+
+pub returns-in-Absent : goal.returns-in-Absent
+returns-in-Absent g c = takes_piece c.put-in-Absent.ensures (search rules) (omega arith)

@@ -1,0 +1,40 @@
+//! What a text is put into piece by piece: a room that it is measured against, and a lent buffer.
+
+ghost use Rattle.std.specs.Prelude.{ℕ, List};
+ghost use Rattle.report.specs.Sinks.{Measured, Wrote};
+
+use crate::sink::lent::Lent;
+use crate::sink::room::Room;
+
+pub(crate) mod lent;
+pub(crate) mod room;
+
+/// Takes a text piece by piece.
+pub(crate) trait Sink {
+    // relates the sink before, the piece that it takes, and the sink after
+    ghost took: { Self → List ℕ → Self → Type 0 };
+
+    fn put(&mut self, piece: &[u8])
+        ensures { took self.old piece.now self.new };
+}
+
+impl Sink for Room {
+    ghost took = { Measured };
+
+    fn put(&mut self, piece: &[u8]) {
+        self.left = self.left.and_then(|left| left.checked_sub(piece.len()));
+    }
+}
+
+impl Sink for Lent<'_> {
+    ghost took = { Wrote };
+
+    // A piece that does not fit is left out, so that every call is allowed.
+    fn put(&mut self, piece: &[u8]) {
+        let end = self.at + piece.len();
+        if end <= self.out.len() {
+            self.out[self.at..end].copy_from_slice(piece);
+            self.at = end;
+        }
+    }
+}

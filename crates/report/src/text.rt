@@ -1,0 +1,55 @@
+//! The text of a report, written as a whole or not at all.
+
+ghost use Rattle.std.specs.Prelude.{◌≡◌};
+ghost use Rattle.report.specs.Buffers.{Written, buffer_too_short};
+ghost use Rattle.report.specs.Sinks.{Takes};
+ghost use Rattle.report.specs.Texts.{most_of, spelled};
+
+use crate::line::put_line;
+use crate::sink::Sink;
+use crate::sink::lent::Lent;
+use crate::sink::room::Room;
+use crate::summary::{Summary, put_tasks};
+use crate::word::Word;
+use fault::{Cause, Fault, Layer};
+
+/// What a report says: a line of words, and a line for each task.
+#[derive(Clone, Copy)]
+pub(crate) struct Text<'a> {
+    pub(crate) first: Word,
+    pub(crate) words: &'a [Word],
+    pub(crate) tasks: &'a [Summary],
+}
+
+impl Text<'_> {
+    fn put<S: Sink>(&self, sink: &mut S)
+        ensures { Takes S.took (most_of self.now) (spelled self.now) sink.old sink.new }
+    {
+        put_line(sink, self.first, self.words);
+        put_tasks(sink, self.tasks);
+    }
+
+    /// Writes the text and answers its length. It is measured first, so that a buffer that is too short is left as it was.
+    pub(crate) fn write(&self, out: &mut [u8]) -> Result<usize, Fault>
+        ensures { Written (most_of self.now) (spelled self.now) out.old out.new result }
+    {
+        let mut room = Room {
+            left: Some(out.len()),
+        };
+        self.put(&mut room);
+        match room.left {
+            Some(_) => {
+                let mut lent = Lent { out, at: 0 };
+                self.put(&mut lent);
+                Ok(lent.at)
+            }
+            None => Err(buffer_too_short()),
+        }
+    }
+}
+
+fn buffer_too_short() -> Fault
+    ensures { result ≡ buffer_too_short }
+{
+    Fault::new(Layer::Run, Cause::BufferTooShort)
+}
