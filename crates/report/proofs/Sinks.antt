@@ -1,5 +1,7 @@
 -- What each sink does with a whole text. Assumes nothing.
-use Rattle.std.proofs.Common.{ℕ, List, [], ◌++◌, Some, None, Option, sym, refl, ◌∙◌, arith, length-append}
+use Rattle.std.proofs.Common.{ℕ, ◌<◌, ◌≤◌, List, [], ◌++◌, length, Some, None, Option, sym, refl, ◌∙◌, arith, length-append}
+use Rattle.std.specs.Prelude.{MatchBool}
+use Rattle.std.specs.Option.{is_some}
 use Rattle.std.proofs.lemmas.Option.{none-some}
 use Rattle.report.specs.declared.sink.lent.Lent.{Lent}
 use Rattle.report.specs.declared.sink.room.Room.{Room}
@@ -23,6 +25,12 @@ leaves_then (Some n) (Some m) (Some l) a b p q = omega (arith, length-append a b
 pub measured_all : {text : List ℕ} {before after : Room} → TookAll Measured before text after → Measured before text after
 measured_all {before = s} nothing = leaves_nothing s.left
 measured_all {before = s} {after = u} (further {t = t} {text = a} {piece = b} p q) = leaves_then s.left t.left u.left a b (measured_all p) q
+
+-- the text fits where something is left of the room, be it nothing more than 0
+pub leaves_fits : (room most : ℕ) (text : List ℕ) (left : Option ℕ) → Leaves (Some room) text left → length text ≤ most
+    → MatchBool (is_some left) (length text ≤ room) ((room < length text) × (room < most))
+leaves_fits room most text None h k = (h, omega arith)
+leaves_fits room most text (Some n) h k = omega arith
 
 -- a text is written as one piece would be
 pub wrote_all : {text : List ℕ} {before after : Lent} → TookAll Wrote before text after → Wrote before text after

@@ -1,7 +1,7 @@
 //! The text of a report, written as a whole or not at all.
 
-ghost use Rattle.std.specs.Prelude.{◌≡◌};
-ghost use Rattle.report.specs.Buffers.{Written, buffer_too_short};
+ghost use Rattle.std.specs.Prelude.{◌≡◌, ◌<◌, ◌≤◌, length, MatchBool};
+ghost use Rattle.report.specs.Buffers.{Whole, Written, buffer_too_short};
 ghost use Rattle.report.specs.Sinks.{Takes};
 ghost use Rattle.report.specs.Texts.{most_of, spelled};
 
@@ -29,21 +29,33 @@ impl Text<'_> {
         put_tasks(sink, self.tasks);
     }
 
+    fn fits(&self, room: usize) -> bool
+        ensures { MatchBool result
+            (length (spelled self.now) ≤ room)
+            ((room < length (spelled self.now)) × (room < most_of self.now)) }
+    {
+        let mut room = Room { left: Some(room) };
+        self.put(&mut room);
+        room.left.is_some()
+    }
+
+    fn fill(&self, out: &mut [u8]) -> usize
+        requires { length (spelled self.now) ≤ length out.old }
+        ensures { Whole (spelled self.now) out.old out.new result }
+    {
+        let mut lent = Lent { out, at: 0 };
+        self.put(&mut lent);
+        lent.at
+    }
+
     /// Writes the text and answers its length. It is measured first, so that a buffer that is too short is left as it was.
     pub(crate) fn write(&self, out: &mut [u8]) -> Result<usize, Fault>
         ensures { Written (most_of self.now) (spelled self.now) out.old out.new result }
     {
-        let mut room = Room {
-            left: Some(out.len()),
-        };
-        self.put(&mut room);
-        match room.left {
-            Some(_) => {
-                let mut lent = Lent { out, at: 0 };
-                self.put(&mut lent);
-                Ok(lent.at)
-            }
-            None => Err(buffer_too_short()),
+        if self.fits(out.len()) {
+            Ok(self.fill(out))
+        } else {
+            Err(buffer_too_short())
         }
     }
 }
