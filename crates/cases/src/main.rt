@@ -5,7 +5,7 @@
 
 ghost use Rattle.std.specs.Prelude.{◌<◌, IfSome};
 
-use anyhow::anyhow;
+use anyhow::Context;
 use report::{LONGEST_REPORT, whole_report};
 use std::alloc::{AllocError, Global};
 use std::io::{BufRead, BufReader, Write};
@@ -21,22 +21,25 @@ fn digit(letter: u8) -> Option<u8>
     }
 }
 
+/// The byte that a pair of hexadecimal digits spells.
+fn byte_of(pair: &[u8]) -> Option<u8> {
+    let &[high, low] = pair else {
+        return None;
+    };
+    Some(16 * digit(high)? + digit(low)?)
+}
+
 /// The bytes that pairs of hexadecimal digits spell, up to the first pair that is none.
 fn unhex(heap: Global, digits: &[u8]) -> Result<Vec<u8>, AllocError> {
     let mut bytes = Vec::new(heap);
-    for pair in digits.chunks_exact(2) {
-        let (Some(high), Some(low)) = (digit(pair[0]), digit(pair[1])) else {
-            break;
-        };
-        bytes.push(16 * high + low)?;
+    for byte in digits.chunks_exact(2).map_while(byte_of) {
+        bytes.push(byte)?;
     }
     Ok(bytes)
 }
 
 fn answer(rt: &HostRuntime, line: &str) -> anyhow::Result<()> {
-    let Some((name, digits)) = line.split_once(' ') else {
-        return Err(anyhow!("a line without a blank"));
-    };
+    let (name, digits) = line.split_once(' ').context("a line without a blank")?;
     let input = unhex(rt.alloc(), digits.as_bytes())?;
     rt.println(name)?;
     let mut out = [0; LONGEST_REPORT];

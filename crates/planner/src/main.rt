@@ -10,5 +10,6 @@ fn main(rt: HostRuntime) -> io::Result<()> {
     let mut input = Vec::new(rt.alloc());
     rt.stdin().read_to_end(&mut input)?;
     let mut out = [0; LONGEST_REPORT];
-    rt.stdout().write_all(whole_report(input.as_slice(), &mut out))
+    rt.stdout()
+        .write_all(whole_report(input.as_slice(), &mut out))
 }

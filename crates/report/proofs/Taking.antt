@@ -33,8 +33,3 @@ module _ {S : Type 0} {took : S → List ℕ → S → Type 0} where
     part = takes_then p.part q h;
     split = append_assoc p.done a left ∙ (ap (λ (z : List ℕ). p.done ++ z) (sym e) ∙ p.split);
   }
-
-  pub up_to_all : {m : ℕ} {whole rest : List ℕ} {s t : S} (most : ℕ) → TookUpTo took m whole rest s t → rest ≡ [] → m ≤ most → Takes took most whole s t
-  up_to_all {s = s} {t = t} most p e h =
-      let all = sym (append-nil p.done) ∙ (ap (λ (z : List ℕ). p.done ++ z) (sym e) ∙ p.split) in
-      subst (λ (z : List ℕ). Takes took most z s t) all (record { all = p.part.all; short = omega (arith, h, p.part.short) })

@@ -1,10 +1,10 @@
 use Rattle.std.proofs.Common.{get_or, List, arith}
-use Rattle.std.proofs.lemmas.List.{at_drop_more, at_drop_all}
+use Rattle.std.proofs.lemmas.List.{at_drop_more}
 use Rattle.report.specs.declared.summary.Summary.{Summary}
 use Rattle.report.specs.Inputs.{untouched}
 use Rattle.report.specs.Reports.{task_line, task_lines}
 use Rattle.report.specs.Sinks.{Takes}
-use Rattle.report.proofs.Taking.{up_to_none, up_to_more, up_to_all}
+use Rattle.report.proofs.Taking.{up_to_none, up_to_more}
 use Rattle.report.proofs.summary.put_tasks.Goals as goal
 
 pub loop-task-init : goal.loop-task-init
@@ -16,7 +16,3 @@ loop-task-preserved g c =
     rw c.task_words.ensures at c.put_line.ensures in
     up_to_more c.loop-task.invariant line
     (at_drop_more (λ (z : List Summary). task_lines c.loop-task.task z) c.args.summaries.now c.loop-task.task untouched (omega arith)) (omega arith)
-
-pub returns : goal.returns
-returns g c =
-    up_to_all _ c.loop-task.invariant (at_drop_all (λ (z : List Summary). task_lines c.loop-task.task z) c.args.summaries.now c.loop-task.task (omega arith)) (omega arith)
