@@ -2,7 +2,7 @@
 
 use crate::favourite::Favourite;
 use crate::flat_cost::FlatCost;
-use delay::{DelayModel, FixedDelay, LoadedBlocks, NoDelay, UsefulBlocks};
+use delay::{DelayModel, FixedDelay, LoadedBlocks, MarkModel, NoDelay, UsefulBlocks};
 use dispatch::{Candidate, EarliestDeadline, FixedPriority, NonPreemptive, Policy};
 use plan::admit;
 use std::test::Fail;
@@ -192,7 +192,7 @@ fn numbers_above_15_change_nothing(rt: HostRuntime) -> Result<(), Fail> {
 
 #[test]
 fn a_model_of_ones_own_counts_preemptions(rt: HostRuntime) {
-    let mut model = FlatCost::new(9);
+    let mut model = MarkModel::with(FlatCost::new(9));
     model.begin(3);
     model.lose(3, 0);
     model.lose(3, 1);

@@ -5,3 +5,4 @@ pub mod Lines
 pub mod Models
 pub mod Bounds
 pub mod LineLaws
+pub mod MarkLaws

@@ -3,60 +3,59 @@
 ghost use Rattle.delay.specs.Models.{fixed_delay};
 ghost use Rattle.plan.specs.Plans.{content_of};
 ghost use Rattle.delay.specs.Bounds.{fixed_bounded};
-ghost use Rattle.std.proofs.Common.{rules};
-
-mod opening;
 
 use crate::figures::task_at;
 use crate::mark::Mark;
-use crate::model::DelayModel;
-use crate::table::{MarkTable, TASKS, zero_mark};
+use crate::mark_model::MarkModel;
+use crate::rule::{MarkRule, PlanRule};
 use plan::{CacheBlocks, Plan};
+
+/// The model in which a job pays a delay that its task's row names.
+pub type FixedDelay = MarkModel<FixedDelayRule>;
 
 /// What the mark of a task keeps once it has lost the core: the set of line 0 alone.
 const LOST: u64 = 1 << 63;
 
-/// The model in which a job pays a delay that its task's row names.
+/// A job that lost the core pays the fixed delay of its task, once.
 #[derive(Clone, Copy)]
-pub struct FixedDelay {
+pub struct FixedDelayRule {
     plan: Plan,
-    table: MarkTable,
 }
 
-impl DelayModel for FixedDelay {
-    ghost profile = { λ m. fixed_delay (content_of m.plan) };
+impl PlanRule for FixedDelayRule {
+    ghost rule_for = { fixed_delay };
 
-    ghost marks = { λ m. m.table.marks };
+    fn of(plan: &Plan) -> Self {
+        FixedDelayRule { plan: *plan }
+    }
+}
 
-    ghost sixteen = { Prim.search rules };
+impl MarkRule for FixedDelayRule {
+    ghost profile = { λ r. fixed_delay (content_of r.plan) };
 
-    ghost bounded = { λ m i k. fixed_bounded (content_of m.plan) i k m.plan.keeping };
+    ghost bounded = { λ r i k. fixed_bounded (content_of r.plan) i k r.plan.keeping };
 
-    fn begin(&mut self, _task: usize) {}
-
-    fn lose(&mut self, task: usize, to: usize) {
-        if to < TASKS {
-            self.table.keep(task, CacheBlocks { lines: LOST });
-        }
+    fn begin(&self, _task: usize, mark: Mark) -> Mark {
+        mark
     }
 
-    fn spend(&mut self, _task: usize) {}
+    fn lose(&self, _task: usize, _to: usize, mark: Mark) -> Mark {
+        mark.keeping(CacheBlocks { lines: LOST })
+    }
 
-    fn resume(&mut self, task: usize) -> u16 {
-        let kept = self.table.at(task).kept;
-        self.table.keep(task, CacheBlocks { lines: 0 });
-        if task < TASKS && kept.lines == LOST {
+    fn spend(&self, _task: usize, mark: Mark) -> Mark {
+        mark
+    }
+
+    fn resume(&self, _task: usize, mark: Mark) -> Mark {
+        mark.keeping(CacheBlocks::default())
+    }
+
+    fn answer(&self, task: usize, mark: Mark) -> u16 {
+        if mark.kept.lines == LOST {
             task_at(&self.plan, task).fixed_delay
         } else {
             0
         }
-    }
-
-    fn finish(&mut self, task: usize) {
-        self.table.put(task, zero_mark());
-    }
-
-    fn mark(&self, task: usize) -> Mark {
-        self.table.at(task)
     }
 }

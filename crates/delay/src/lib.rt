@@ -2,21 +2,26 @@
 
 #![tactic(auto)]
 
+mod cache;
 mod figures;
 mod fixed;
 mod lines;
 mod loaded;
 mod mark;
+mod mark_model;
 mod model;
 mod none;
+mod rule;
 mod table;
 mod ticks;
 mod useful;
 
-pub use fixed::FixedDelay;
-pub use loaded::LoadedBlocks;
-pub use mark::Mark;
+pub use fixed::{FixedDelay, FixedDelayRule};
+pub use loaded::{LoadedBlocks, LoadedBlocksRule};
+pub use mark::{Mark, zero_mark};
+pub use mark_model::MarkModel;
 pub use model::DelayModel;
-pub use none::NoDelay;
-pub use table::{MarkTable, zero_mark};
-pub use useful::UsefulBlocks;
+pub use none::{NoDelay, NoDelayRule};
+pub use rule::{MarkRule, PlanRule};
+pub use table::MarkTable;
+pub use useful::{UsefulBlocks, UsefulBlocksRule};

@@ -1,6 +1,6 @@
 //! Sets of cache lines: what is left of one, and how many lines are in it.
 
-ghost use Rattle.std.specs.Prelude.{◌≡◌, ℕ, ◌<◌, ◌≤◌, not, ◌&&◌};
+ghost use Rattle.std.specs.Prelude.{◌≡◌, ℕ, ◌<◌, not, ◌&&◌};
 ghost use Rattle.delay.specs.Lines.{count_lines, missing, without};
 ghost use Rattle.plan.specs.Blocks.{holds};
 
@@ -17,17 +17,15 @@ pub(crate) fn left_of(blocks: CacheBlocks, others: CacheBlocks) -> CacheBlocks
 }
 
 /// How many lines there are in `blocks`.
-pub(crate) fn line_count(blocks: CacheBlocks) -> u16
-    ensures value { result ≡ count_lines blocks.lines }
-    ensures most { result ≤ 64 }
+pub(crate) fn line_count(blocks: CacheBlocks) -> u8
+    ensures { result ≡ count_lines blocks.lines }
 {
-    blocks.lines.count_ones() as u16
+    blocks.lines.count_ones() as u8
 }
 
 /// How many lines of `useful` are not in `kept`.
-pub(crate) fn missing_count(useful: CacheBlocks, kept: CacheBlocks) -> u16
-    ensures value { result ≡ missing useful.lines kept.lines }
-    ensures most { result ≤ 64 }
+pub(crate) fn missing_count(useful: CacheBlocks, kept: CacheBlocks) -> u8
+    ensures { result ≡ missing useful.lines kept.lines }
 {
     line_count(left_of(useful, kept))
 }

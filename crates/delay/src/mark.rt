@@ -1,33 +1,32 @@
 //! The mark of one task.
 
-ghost use Rattle.std.specs.Prelude.{◌≡◌, ◌↔◌, IsTrue, nat_eq};
-ghost use Rattle.std.specs.Ordering.{on, eq_of_both};
-ghost use Rattle.std.specs.Cmp.Rules.{comparing};
-ghost use Rattle.std.proofs.Common.{rules};
-ghost use Rattle.std.specs.Cmp as Keys;
+ghost use Rattle.std.specs.Prelude.{◌≡◌};
+ghost use Rattle.delay.specs.Marks.{keeping, zero_mark};
 
 use plan::CacheBlocks;
 
 /// What a delay model remembers of one task. Each model says what the two parts stand for.
-#[derive(Clone, Copy)]
+#[derive(Clone, Copy, PartialEq, Eq, Default)]
 pub struct Mark {
     pub kept: CacheBlocks,
     pub credit: u16,
 }
 
-impl PartialEq for Mark {
-    ghost eq = { eq_of_both (on (λ m. m.kept.lines) nat_eq) (on (λ m. m.credit) nat_eq) };
-
-    ghost laws = { Keys.partial_equiv_from_equiv (Prim.search (comparing, rules)) };
-
-    fn eq(&self, other: &Mark) -> bool
-        ensures parts { result ≡ eq_of_both (on (λ m. m.kept.lines) nat_eq) (on (λ m. m.credit) nat_eq) self.now other.now }
-        ensures same { IsTrue result ↔ (self.now ≡ other.now) }
-    {
-        self.kept.lines == other.kept.lines && self.credit == other.credit
-    }
+/// The mark of a task of which nothing is known.
+pub fn zero_mark() -> Mark
+    ensures { result ≡ zero_mark }
+{
+    Mark::default()
 }
 
-impl Eq for Mark {
-    ghost laws = { Prim.search (comparing, rules) };
+impl Mark {
+    /// The mark with these lines in the place of those it keeps.
+    pub fn keeping(self, kept: CacheBlocks) -> Mark
+        ensures { result ≡ keeping kept.lines self }
+    {
+        Mark {
+            kept,
+            credit: self.credit,
+        }
+    }
 }

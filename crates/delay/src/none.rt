@@ -3,42 +3,48 @@
 ghost use Rattle.delay.specs.Models.{no_delay};
 ghost use Rattle.std.proofs.Common.{rules};
 
-mod opening;
-
 use crate::mark::Mark;
-use crate::model::DelayModel;
-use crate::table::{MarkTable, zero_mark};
+use crate::mark_model::MarkModel;
+use crate::rule::{MarkRule, PlanRule};
+use plan::Plan;
 
 /// The model in which a job pays nothing.
+pub type NoDelay = MarkModel<NoDelayRule>;
+
+/// A job pays nothing, whatever the plan says.
 #[derive(Clone, Copy)]
-pub struct NoDelay {
-    table: MarkTable,
+pub struct NoDelayRule;
+
+impl PlanRule for NoDelayRule {
+    ghost rule_for = { λ _. no_delay };
+
+    fn of(_plan: &Plan) -> Self {
+        NoDelayRule
+    }
 }
 
-impl DelayModel for NoDelay {
+impl MarkRule for NoDelayRule {
     ghost profile = { λ _. no_delay };
-
-    ghost marks = { λ m. m.table.marks };
-
-    ghost sixteen = { Prim.search rules };
 
     ghost bounded = { Prim.search rules };
 
-    fn begin(&mut self, _task: usize) {}
+    fn begin(&self, _task: usize, mark: Mark) -> Mark {
+        mark
+    }
 
-    fn lose(&mut self, _task: usize, _to: usize) {}
+    fn lose(&self, _task: usize, _to: usize, mark: Mark) -> Mark {
+        mark
+    }
 
-    fn spend(&mut self, _task: usize) {}
+    fn spend(&self, _task: usize, mark: Mark) -> Mark {
+        mark
+    }
 
-    fn resume(&mut self, _task: usize) -> u16 {
+    fn resume(&self, _task: usize, mark: Mark) -> Mark {
+        mark
+    }
+
+    fn answer(&self, _task: usize, _mark: Mark) -> u16 {
         0
-    }
-
-    fn finish(&mut self, task: usize) {
-        self.table.put(task, zero_mark());
-    }
-
-    fn mark(&self, task: usize) -> Mark {
-        self.table.at(task)
     }
 }

@@ -3,64 +3,55 @@
 ghost use Rattle.delay.specs.Models.{useful_blocks};
 ghost use Rattle.plan.specs.Plans.{content_of};
 ghost use Rattle.delay.specs.Bounds.{useful_bounded};
-ghost use Rattle.std.proofs.Common.{rules};
 
-mod opening;
-
-use crate::figures::{reload_time, task_at};
-use crate::lines::{left_of, missing_count};
+use crate::cache::{evicted, to_reload};
+use crate::figures::task_at;
 use crate::mark::Mark;
-use crate::model::DelayModel;
-use crate::table::{MarkTable, TASKS, zero_mark};
+use crate::mark_model::MarkModel;
+use crate::rule::{MarkRule, PlanRule};
 use crate::ticks::reload_ticks;
 use plan::Plan;
 
 /// The model in which a job reloads its useful blocks that were evicted.
+pub type UsefulBlocks = MarkModel<UsefulBlocksRule>;
+
+/// A job reloads every useful block that was evicted.
 #[derive(Clone, Copy)]
-pub struct UsefulBlocks {
+pub struct UsefulBlocksRule {
     plan: Plan,
-    table: MarkTable,
 }
 
-impl DelayModel for UsefulBlocks {
-    ghost profile = { λ m. useful_blocks (content_of m.plan) };
+impl PlanRule for UsefulBlocksRule {
+    ghost rule_for = { useful_blocks };
 
-    ghost marks = { λ m. m.table.marks };
+    fn of(plan: &Plan) -> Self {
+        UsefulBlocksRule { plan: *plan }
+    }
+}
 
-    ghost sixteen = { Prim.search rules };
+impl MarkRule for UsefulBlocksRule {
+    ghost profile = { λ r. useful_blocks (content_of r.plan) };
 
-    ghost bounded = { λ m i k. useful_bounded (content_of m.plan) i k m.plan.reloads };
+    ghost bounded = { λ r i k. useful_bounded (content_of r.plan) i k r.plan.reloads };
 
-    fn begin(&mut self, task: usize) {
-        self.table.keep(task, task_at(&self.plan, task).useful);
+    fn begin(&self, task: usize, mark: Mark) -> Mark {
+        mark.keeping(task_at(&self.plan, task).useful)
     }
 
-    fn lose(&mut self, task: usize, to: usize) {
-        if to < TASKS {
-            let kept = self.table.at(task).kept;
-            let evicting = task_at(&self.plan, to).evicting;
-            self.table.keep(task, left_of(kept, evicting));
-        }
+    fn lose(&self, _task: usize, to: usize, mark: Mark) -> Mark {
+        evicted(&self.plan, to, mark)
     }
 
-    fn spend(&mut self, _task: usize) {}
-
-    fn resume(&mut self, task: usize) -> u16 {
-        let kept = self.table.at(task).kept;
-        let useful = task_at(&self.plan, task).useful;
-        self.table.keep(task, useful);
-        if task < TASKS {
-            reload_ticks(missing_count(useful, kept), reload_time(&self.plan))
-        } else {
-            0
-        }
+    fn spend(&self, _task: usize, mark: Mark) -> Mark {
+        mark
     }
 
-    fn finish(&mut self, task: usize) {
-        self.table.put(task, zero_mark());
+    fn resume(&self, task: usize, mark: Mark) -> Mark {
+        mark.keeping(task_at(&self.plan, task).useful)
     }
 
-    fn mark(&self, task: usize) -> Mark {
-        self.table.at(task)
+    fn answer(&self, task: usize, mark: Mark) -> u16 {
+        let missing = to_reload(&self.plan, task, mark);
+        reload_ticks(missing, self.plan.block_reload_time())
     }
 }

@@ -1,10 +1,6 @@
 use Rattle.std.proofs.Common.{arith}
-use Rattle.std.proofs.lemmas.Nat.{ones-le}
 use Rattle.delay.specs.LineLaws.{count_is_ones}
 use Rattle.delay.proofs.lines.line_count.Goals as goal
 
 pub returns : goal.returns
-returns c = record {
-  value = count_is_ones c.args.blocks.lines (omega arith);
-  most = ones-le 64 c.args.blocks.lines (omega arith);
-}
+returns c = count_is_ones c.args.blocks.lines (omega arith)

@@ -3,7 +3,4 @@ use Rattle.delay.specs.LineLaws.{missing_counted}
 use Rattle.delay.proofs.lines.missing_count.Goals as goal
 
 pub returns : goal.returns
-returns c = record {
-  value = c.line_count.ensures.value ∙ missing_counted c.args.useful.lines c.args.kept.lines _ (omega arith) c.left_of.ensures.whole;
-  most = c.line_count.ensures.most;
-}
+returns c = c.line_count.ensures ∙ missing_counted c.args.useful.lines c.args.kept.lines _ (omega arith) c.left_of.ensures.whole

@@ -1,6 +1,0 @@
-use Rattle.std.proofs.Common.{refl}
-use Rattle.delay.proofs.Unchanged.{left_alone}
-use Rattle.delay.proofs.none.NoDelayDelayModel.begin.Goals as goal
-
-pub returns : goal.returns
-returns c = record { same = refl; after = left_alone _ _ }
