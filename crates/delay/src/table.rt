@@ -1,10 +1,10 @@
 //! The marks of the 16 tasks.
 
 ghost use Rattle.std.specs.Prelude.{◌≡◌, length, replicate, slice_index_or, slice_set};
-ghost use Rattle.delay.specs.Marks.{zero_mark};
+ghost use Rattle.delay.specs.Marks.{changed, keeping, zero_mark};
 
 use crate::mark::{Mark, zero_mark};
-use plan::MOST_TASKS;
+use plan::{CacheBlocks, MOST_TASKS};
 
 /// A mark for each task, by its number.
 #[derive(Clone, Copy)]
@@ -37,5 +37,12 @@ impl MarkTable {
         if task < MOST_TASKS {
             self.marks[task] = mark;
         }
+    }
+    /// Puts a set in the place of the lines that a task's mark keeps, and leaves its credit.
+    pub fn keep(&mut self, task: usize, kept: CacheBlocks)
+        ensures { self.new.marks ≡ changed self.old.marks task (keeping kept.lines) }
+    {
+        let mark = self.at(task).keeping(kept);
+        self.put(task, mark);
     }
 }
