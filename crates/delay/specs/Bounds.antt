@@ -1,9 +1,9 @@
--- No answer of a model is above 4096.
+-- No answer of a model is above 4096. Assumes nothing.
 use Rattle.std.specs.Prelude.{◌≡◌, ℕ, zero, suc, ◌*◌, ◌/◌, ◌<◌, ◌≤◌, min, Bool, true, List, [], ◌∷◌, ◌==◌, slice_index_or}
-use Rattle.std.proofs.Math.Nat.{min-le_left}
 use Rattle.std.proofs.Common.{arith, lit<}
 use Rattle.std.proofs.lemmas.Nat.{mul-le}
-use Rattle.std.proofs.lemmas.Bool.{and_parts, ltb-true, cond_both}
+use Rattle.std.proofs.lemmas.Bool.{and_parts, cond_both}
+use Rattle.std.proofs.lemmas.Bool.Decides.{nat_tests}
 use Rattle.plan.specs.Admission.{Content}
 use Rattle.plan.specs.Tasks.{all_of, lawful}
 use Rattle.plan.specs.declared.tasks.Task.{Task}
@@ -13,11 +13,10 @@ use Rattle.delay.specs.Lines.{count_below}
 use Rattle.delay.specs.Models.{fixed_delay, lost_sign, useful_blocks, loaded_blocks, to_reload}
 use Rattle.delay.specs.LineLaws.{bit_small}
 
--- a lawful task's fixed delay fits twelve bits
+-- ---- a lawful task's fixed delay fits twelve bits
+
 row_delay : (t : Task) → lawful t ≡ true → t.fixed_delay < 4096
-row_delay t h =
-    let row = (and_parts _ _ (and_parts _ _ (and_parts _ _ h).0).0).0 in
-    ltb-true _ _ (and_parts _ _ (and_parts _ _ (and_parts _ _ row).0).0).1
+row_delay t h = grind (arith, nat_tests)
 
 delay_small : (ts : List Task) (i : ℕ) → all_of lawful ts ≡ true → (slice_index_or ts i zero_task).fixed_delay < 4096
 delay_small [] i h = lit< tt
@@ -36,24 +35,12 @@ unfolding count_below
 few_below zero p = omega arith
 few_below (suc n) p = omega (arith, few_below n p, bit_small (p n))
 
-reloads_small : (n m r : ℕ) → n ≤ m → m ≤ 64 → r < 64 → n * r ≤ 4096
-reloads_small n m r h k l =
-    let few : n ≤ 64 = omega arith in
-    let short : r ≤ 63 = omega arith in
-    omega (arith, mul-le n r 64 63 few short)
-
 few_missing : (c : Content) (i : ℕ) (k : Mark) → to_reload c i k ≤ 64
 few_missing c i k = few_below 64 _
 
 pub useful_bounded : (c : Content) (i : ℕ) (k : Mark) → c.reload < 64 → (useful_blocks c).answer i k ≤ 4096
-useful_bounded c i k h = reloads_small (to_reload c i k) 64 c.reload (few_missing c i k) (omega arith) h
+useful_bounded c i k h = mul-le (to_reload c i k) c.reload 64 64 (few_missing c i k) (omega arith)
 
 pub loaded_bounded : (c : Content) (i : ℕ) (k : Mark) → c.reload < 64 → (loaded_blocks c).answer i k ≤ 4096
 loaded_bounded c i k h =
-    reloads_small
-    (min (to_reload c i k) (k.credit / c.reload))
-    (to_reload c i k)
-    c.reload
-    (min-le_left (to_reload c i k) (k.credit / c.reload))
-    (few_missing c i k)
-    h
+    mul-le (min (to_reload c i k) (k.credit / c.reload)) c.reload 64 64 (omega (arith, few_missing c i k)) (omega arith)
