@@ -1,16 +1,16 @@
 -- No answer of a model is above 4096. Assumes nothing.
-use Rattle.std.specs.Prelude.{◌≡◌, ℕ, zero, suc, ◌*◌, ◌/◌, ◌<◌, ◌≤◌, min, Bool, true, List, [], ◌∷◌, ◌==◌, slice_index_or}
-use Rattle.std.proofs.Common.{arith, lit<}
+use Rattle.std.specs.Prelude.{◌≡◌, ℕ, zero, suc, ◌/◌, ◌<◌, ◌≤◌, min, Bool, true, List, [], ◌∷◌, slice_index_or}
+use Rattle.std.proofs.Common.{arith}
 use Rattle.std.proofs.lemmas.Nat.{mul-le}
-use Rattle.std.proofs.lemmas.Bool.{and_parts, cond_both}
+use Rattle.std.proofs.lemmas.Bool.{and_parts}
 use Rattle.std.proofs.lemmas.Bool.Decides.{nat_tests}
 use Rattle.plan.specs.Admission.{Content}
 use Rattle.plan.specs.Tasks.{all_of, lawful}
 use Rattle.plan.specs.declared.tasks.Task.{Task}
 use Rattle.delay.specs.declared.mark.Mark.{Mark}
-use Rattle.delay.specs.Figures.{zero_task, delay_of}
+use Rattle.delay.specs.Figures.{zero_task}
 use Rattle.delay.specs.Lines.{count_below}
-use Rattle.delay.specs.Models.{fixed_delay, lost_sign, useful_blocks, loaded_blocks, to_reload}
+use Rattle.delay.specs.Models.{fixed_delay, useful_blocks, loaded_blocks, to_reload}
 use Rattle.delay.specs.LineLaws.{bit_small}
 
 -- ---- a lawful task's fixed delay fits twelve bits
@@ -19,14 +19,12 @@ row_delay : (t : Task) → lawful t ≡ true → t.fixed_delay < 4096
 row_delay t h = grind (arith, nat_tests)
 
 delay_small : (ts : List Task) (i : ℕ) → all_of lawful ts ≡ true → (slice_index_or ts i zero_task).fixed_delay < 4096
-delay_small [] i h = lit< tt
+delay_small [] i h = omega arith
 delay_small (t ∷ ts) zero h = row_delay t (and_parts _ _ h).0
 delay_small (t ∷ ts) (suc i) h = delay_small ts i (and_parts (lawful t) _ h).1
 
 pub fixed_bounded : (c : Content) (i : ℕ) (k : Mark) → all_of lawful c.tasks ≡ true → (fixed_delay c).answer i k ≤ 4096
-fixed_bounded c i k h =
-    let small = delay_small c.tasks i h in
-    cond_both (k.kept.lines == lost_sign) (delay_of c i) 0 (λ x. x ≤ 4096) (λ _. omega arith) (λ _. omega arith)
+fixed_bounded c i k h = grind (arith, nat_tests, delay_small c.tasks i h)
 
 -- ---- no set has more than 64 lines, and no reload takes more than 63 ticks
 

@@ -1,4 +1,4 @@
--- What `==` on marks tells.
+-- What `==` on marks tells. Assumes nothing.
 --     mark_eq a b       what `==` answers for the marks a and b
 --     equal_same        it answers whether they are the same mark
 use Rattle.std.specs.Prelude.{◌≡◌, ◌↔◌, Bool, IsTrue}

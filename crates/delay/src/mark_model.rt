@@ -11,7 +11,7 @@ use crate::rule::{MarkRule, PlanRule};
 use crate::table::MarkTable;
 use plan::{MOST_TASKS, Plan};
 
-/// A rule, and the marks that it has made.
+/// The delay model of a rule: a mark for each of 16 tasks, which every call changes as the rule says.
 #[derive(Clone, Copy)]
 pub struct MarkModel<R> {
     rule: R,

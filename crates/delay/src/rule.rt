@@ -9,7 +9,9 @@ ghost use Rattle.plan.specs.Plans.{content_of};
 use crate::mark::Mark;
 use plan::Plan;
 
-/// What a delay model makes of one mark. `MarkModel` keeps a mark for each task by it.
+/// What a delay model makes of one mark; `MarkModel` keeps a mark for each task by it.
+///
+/// Its meaning is one profile. No call changes the rule itself, so nothing can be counted outside of the marks.
 pub trait MarkRule {
     ghost profile: { Self → Profile };
 
