@@ -38,8 +38,8 @@ impl MarkRule for FlatCost {
 
     fn lose(&self, _task: usize, _to: usize, mark: Mark) -> Mark {
         Mark {
-            kept: mark.kept,
             credit: mark.credit.saturating_add(1).min(MOST),
+            ..mark
         }
     }
 

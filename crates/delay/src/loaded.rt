@@ -51,8 +51,8 @@ impl MarkRule for LoadedBlocksRule {
         let useful = task_at(&self.plan, task).useful;
         let most = reload_ticks(line_count(useful), self.plan.block_reload_time());
         Mark {
-            kept: mark.kept,
             credit: credited(mark.credit, most),
+            ..mark
         }
     }
 

@@ -24,9 +24,6 @@ impl Mark {
     pub fn keeping(self, kept: CacheBlocks) -> Mark
         ensures { result ≡ keeping kept.lines self }
     {
-        Mark {
-            kept,
-            credit: self.credit,
-        }
+        Mark { kept, ..self }
     }
 }
