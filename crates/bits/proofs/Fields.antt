@@ -1,17 +1,27 @@
 -- The laws of a field, over its width.
-use Rattle.std.proofs.Common.{◌≡◌, ℕ, zero, suc, ◌+◌, ◌-◌, ◌*◌, ◌/◌, ◌%◌, ◌^◌, ◌<◌, ◌≤◌, List, get_or, refl, ap, ◌∙◌, pow-suc, add-one, arith}
+use Rattle.std.proofs.Common.{◌≡◌, ℕ, zero, suc, ◌+◌, ◌-◌, ◌*◌, ◌/◌, ◌%◌, ◌^◌, ◌<◌, ◌≤◌, Bool, true, false, cond, ltb, List, get_or, refl, ap, ◌∙◌, pow-suc, add-one, arith}
 use lib.Bits.{bit_and, bit_or}
 use Rattle.std.proofs.lemmas.Nat.{and_mask, or_shifted, shl_whole, shr-shr, mod-pow-add}
+use Rattle.std.specs.Int.{from_bool}
+use Rattle.std.proofs.lemmas.Bool.Decides.{nat_tests}
 use Rattle.bits.specs.Bits.{bit, spelled}
 
 pub bit_below_two : (bs : List ℕ) (i : ℕ) → bit bs i < 2
 unfolding bit
 bit_below_two bs i = omega arith
 
+-- whether the last bit is set, as a bit
+pub last_bit : (y : ℕ) → cond (ltb 0 (bit_and y 1)) 1 0 ≡ y % 2
+last_bit y = rw (and_mask y 1) (grind (arith, nat_tests))
+
+as_number : (t : Bool) → from_bool t ≡ cond t 1 0
+as_number true = refl
+as_number false = refl
+
 -- the last bit of a shifted byte
-pub bit_of_byte : (bs : List ℕ) (i : ℕ) → bit_and (get_or bs (i / 8) 0 / 2 ^ (7 - i % 8)) 1 ≡ bit bs i
+pub bit_of_byte : (bs : List ℕ) (i : ℕ) → from_bool (ltb 0 (bit_and (get_or bs (i / 8) 0 / 2 ^ (7 - i % 8)) 1)) ≡ bit bs i
 unfolding bit
-bit_of_byte bs i = and_mask (get_or bs (i / 8) 0 / 2 ^ (7 - i % 8)) 1
+bit_of_byte bs i = as_number _ ∙ last_bit (get_or bs (i / 8) 0 / 2 ^ (7 - i % 8))
 
 pub spelled_none : (bs : List ℕ) (at : ℕ) → spelled bs at 0 ≡ 0
 unfolding spelled

@@ -1,7 +1,6 @@
 -- The laws of a field that is written bit by bit.
 use Rattle.std.proofs.Common.{◌≡◌, ℕ, ◌+◌, ◌-◌, ◌*◌, ◌/◌, ◌%◌, ◌^◌, ◌<◌, ◌≤◌, true, false, cond, eqb, ltb, List, length, get_or, set, sym, refl, ap, ◌∙◌, inl, inr, arith, pow_pos}
-use lib.Bits.{bit_and}
-use Rattle.std.proofs.lemmas.Nat.{and_mask, div_below, le-div, shr-shr}
+use Rattle.std.proofs.lemmas.Nat.{div_below, le-div, shr-shr}
 use Rattle.std.proofs.lemmas.List.{get_or-set_same, get_or-set_other, length-set}
 use Rattle.std.proofs.lemmas.Bool.{cases_eq, eq-eqb, ne_eqb, cond-true, cond-false, ltb-true}
 use Rattle.std.proofs.lemmas.Bool.Decides.{nat_tests}
@@ -74,7 +73,3 @@ next_bit v n i h =
     let half : v / 2 ^ (n - (i + 1)) / 2 ≡ v / 2 ^ (n - i) = shr-shr v (n - (i + 1)) 1 ∙ ap (λ (z : ℕ). v / 2 ^ z) more in
     let last : v / 2 ^ (n - 1 - i) ≡ v / 2 ^ (n - (i + 1)) = ap (λ (z : ℕ). v / 2 ^ z) less in
     omega arith
-
--- whether the last bit is set, as a bit
-pub last_bit : (y : ℕ) → cond (ltb 0 (bit_and y 1)) 1 0 ≡ y % 2
-last_bit y = rw (and_mask y 1) (grind (arith, nat_tests))

@@ -20,10 +20,10 @@ fn fill_head(head: &mut [u8], count: u8, block_reload_time: u8)
     ensures { HeadOf head.new count block_reload_time }
 {
     let mut fields = FieldWriter::new(head);
-    fields.put(REVISION, 4);
-    fields.put(u64::from(count - 1), 4);
-    fields.put(u64::from(block_reload_time), 6);
-    fields.put(0, 2);
+    fields.put(REVISION, 4).unwrap();
+    fields.put(u64::from(count - 1), 4).unwrap();
+    fields.put(u64::from(block_reload_time), 6).unwrap();
+    fields.put(0, 2).unwrap();
 }
 
 /// Writes a task into the 29 bytes of its row.
@@ -32,15 +32,15 @@ fn fill_row(row: &mut [u8], task: Task)
     ensures { fields_at row.new 0 row_widths ≡ row_values task 0 }
 {
     let mut fields = FieldWriter::new(row);
-    fields.put(u64::from(task.offset), 20);
-    fields.put(u64::from(task.period), 20);
-    fields.put(u64::from(task.deadline), 20);
-    fields.put(u64::from(task.work), 20);
-    fields.put(u64::from(task.priority), 8);
-    fields.put(u64::from(task.fixed_delay), 12);
-    fields.put(task.useful.lines, 64);
-    fields.put(task.evicting.lines, 64);
-    fields.put(0, 4);
+    fields.put(u64::from(task.offset), 20).unwrap();
+    fields.put(u64::from(task.period), 20).unwrap();
+    fields.put(u64::from(task.deadline), 20).unwrap();
+    fields.put(u64::from(task.work), 20).unwrap();
+    fields.put(u64::from(task.priority), 8).unwrap();
+    fields.put(u64::from(task.fixed_delay), 12).unwrap();
+    fields.put(task.useful.lines, 64).unwrap();
+    fields.put(task.evicting.lines, 64).unwrap();
+    fields.put(0, 4).unwrap();
 }
 
 /// Writes the head into the first two bytes of a buffer.

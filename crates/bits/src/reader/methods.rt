@@ -1,15 +1,16 @@
 ghost use Rattle.std.specs.Prelude.{◌≡◌, ◌+◌, ◌*◌, ◌^◌, ◌<◌, length, IfSome, if◌then◌else◌, Some, None};
+ghost use Rattle.std.specs.Int.{from_bool};
 ghost use Rattle.bits.specs.Bits.{bit, spelled};
 ghost use Rattle.bits.specs.Readers.{bytes_of, place_of, available};
 
 use super::BitReader;
 use crate::WIDEST;
 
-fn bit_at(bytes: &[u8], i: u128) -> u8
+fn bit_at(bytes: &[u8], i: u128) -> bool
     requires { i < 8 * length bytes.now }
-    ensures { result ≡ bit bytes.now i }
+    ensures { from_bool result ≡ bit bytes.now i }
 {
-    (bytes[(i / 8) as usize] >> (7 - (i % 8) as u32)) & 1
+    (bytes[(i / 8) as usize] >> (7 - (i % 8) as u32)) & 1 > 0
 }
 
 impl<'a> BitReader<'a> {

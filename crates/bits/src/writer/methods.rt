@@ -1,4 +1,4 @@
-ghost use Rattle.std.specs.Prelude.{◌≡◌, ℕ, ◌-◌, ◌/◌, ◌%◌, ◌^◌, ◌<◌, ◌≤◌, if◌then◌else◌, nat_eq, nat_lt};
+ghost use Rattle.std.specs.Prelude.{◌≡◌, ℕ, ◌-◌, ◌/◌, ◌%◌, ◌^◌, ◌<◌, ◌≤◌, if◌then◌else◌, Ok, Err, nat_eq, nat_lt};
 ghost use Rattle.bits.specs.Writers.{out_of, next_of, puttable, Puts};
 
 use super::FieldWriter;
@@ -31,14 +31,14 @@ impl<'a> FieldWriter<'a> {
         FieldWriter { out, place: 0 }
     }
 
-    /// Puts `value` into the next `width` bits; or says no, and changes nothing, where it has more bits than that, or fewer are left, or more than 64 are asked for.
-    pub fn put(&mut self, value: u64, width: u32) -> bool
-        ensures done { result ≡ puttable self.old value width }
+    /// Puts `value` into the next `width` bits; or hands it back, and changes nothing, where it has more bits than that, or fewer are left, or more than 64 are asked for.
+    pub fn put(&mut self, value: u64, width: u32) -> Result<(), u64>
+        ensures answer { result ≡ (if puttable self.old value width then Ok tt else Err value) }
         ensures puts { Puts self.old self.new value width }
     {
         let end = self.place + u128::from(width);
         if width > WIDEST || !fits(value, width) || end > 8 * (self.out.len() as u128) {
-            return false;
+            return Err(value);
         }
         for i in 0..width {
             let at = self.place + u128::from(i);
@@ -47,6 +47,6 @@ impl<'a> FieldWriter<'a> {
             self.out[byte] = with_bit(self.out[byte], (at % 8) as u32, on);
         }
         self.place = end;
-        true
+        Ok(())
     }
 }

@@ -1,5 +1,6 @@
 use Rattle.std.proofs.Common.{◌≡◌, ◌+◌, ◌-◌, ◌*◌, ◌/◌, ◌^◌, ◌<◌, length, refl, arith}
-use Rattle.bits.proofs.Writes.{written_none, written_more, next_bit, last_bit}
+use Rattle.bits.proofs.Fields.{last_bit}
+use Rattle.bits.proofs.Writes.{written_none, written_more, next_bit}
 use Rattle.bits.proofs.writer.FieldWriter.put.Goals as goal
 
 pub loop-i-init : goal.loop-i-init
