@@ -34,7 +34,7 @@ impl PlanRule for LoadedBlocksRule {
 impl MarkRule for LoadedBlocksRule {
     ghost profile = { λ r. loaded_blocks (content_of r.plan) };
 
-    ghost bounded = { λ r i k. loaded_bounded (content_of r.plan) i k r.plan.reloads };
+    ghost bounded = { λ r i k. loaded_bounded (content_of r.plan) i k r.plan.head.reloads };
 
     fn begin(&self, task: usize, _mark: Mark) -> Mark {
         Mark {

@@ -32,7 +32,7 @@ impl PlanRule for UsefulBlocksRule {
 impl MarkRule for UsefulBlocksRule {
     ghost profile = { λ r. useful_blocks (content_of r.plan) };
 
-    ghost bounded = { λ r i k. useful_bounded (content_of r.plan) i k r.plan.reloads };
+    ghost bounded = { λ r i k. useful_bounded (content_of r.plan) i k r.plan.head.reloads };
 
     fn begin(&self, task: usize, mark: Mark) -> Mark {
         mark.keeping(task_at(&self.plan, task).useful)

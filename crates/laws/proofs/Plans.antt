@@ -19,7 +19,7 @@ use Rattle.laws.specs.Settings.{Admitted}
 -- a plan's own invariants are what the laws ask for
 pub admitted_plan : (p : Plan) (rule : Rule) (profile : Profile) → Admitted (setting_of p rule profile)
 admitted_plan p rule profile = record {
-  few = simp length-take (omega (arith, p.counted.1));
+  few = simp length-take (omega (arith, p.head.few));
   keeping = p.keeping;
   repeating = p.repeating;
 }

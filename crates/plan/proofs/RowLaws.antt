@@ -54,8 +54,8 @@ module _ (b : List ℕ) (i : ℕ) (t : Task)
   row_rules : first_wrong (rule_checks (in_row i) (row_of b i)) ≡ None
   row_rules = subst (λ (z : Task). first_wrong (rule_checks (in_row i) z) ≡ None) row_spelled kept
 
-  row_whole : 29 * i ≤ length b → 29 * (i + 1) ≤ length b
-  row_whole h =
+  row_whole : 29 * (i + 1) ≤ length b
+  row_whole =
       let long = ltb-false _ _ (none_left (ltb (length (row_bytes b i)) 29) _ _ row_bytes_lem).0 in
       omega (arith, length-drop (29 * i) b)
 
@@ -72,13 +72,13 @@ module _ (b : List ℕ) (i : ℕ) (t : Task)
   row_periods = ap (λ (z : Task). periods (rows_of b i) ++ (z.period ∷ [])) row_spelled ∙ sym (periods_more b i)
 
   module _ (h : ℕ) (before : IsLcm h (periods (rows_of b i))) where
-    pub row_admitted : (n : ℕ) → Joins n h t.period → 29 * i ≤ length b → n ≤ hyperperiod_limit → RowAdmitted b i t n
-    row_admitted n joins long small =
+    pub row_admitted : (n : ℕ) → Joins n h t.period → n ≤ hyperperiod_limit → RowAdmitted b i t n
+    row_admitted n joins small =
         let repeating = subst (IsLcm n) row_periods (lcm_push h t.period n (periods (rows_of b i)) before joins) in
         let found = common_found hyperperiod_limit n (periods (rows_of b (i + 1))) joins.positive small repeating.1 in
         record {
           passed = row_checked ∙ cond-false _ _ _ (not_from_true _ found);
-          whole = row_whole long;
+          whole = row_whole;
           spelled = row_spelled;
           keeping = row_lawful;
           repeating = repeating;

@@ -10,11 +10,11 @@ use Rattle.plan.specs.Admission.{Content, admission}
 
 -- The places of the table past the count hold no task.
 abbrev pub tasks_in : Plan → List Task
-tasks_in p = take p.count p.tasks
+tasks_in p = take p.head.count p.tasks
 
 -- The reload time and the tasks.
 abbrev pub content_of : Plan → Content
-content_of p = record { reload = p.block_reload_time; tasks = tasks_in p }
+content_of p = record { reload = p.head.block_reload_time; tasks = tasks_in p }
 
 -- An admitted plan can be written down in one way only.
 abbrev pub OnlyEncoding : Content → List ℕ → Type 0

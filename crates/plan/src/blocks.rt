@@ -14,12 +14,6 @@ impl CacheBlocks {
     pub fn is_within(self, other: CacheBlocks) -> bool
         ensures { result ≡ within self.lines other.lines }
     {
-        lies_within(self.lines, other.lines)
+        self.lines & other.lines == self.lines
     }
-}
-
-fn lies_within(lines: u64, others: u64) -> bool
-    ensures { result ≡ within lines others }
-{
-    lines & others == lines
 }

@@ -28,9 +28,15 @@ impl Hyperperiod {
             (common_up_to hyperperiod_limit (self.ticks ∷ period ∷ []) ≡ false)
             (λ h. Joins h.ticks self.ticks period) }
     {
-        match joined(self.ticks, period) {
-            Some(ticks) => Some(Hyperperiod { ticks }),
-            None => None,
+        if period == 0 {
+            return None;
+        }
+        let period = u64::from(period);
+        let ticks = self.ticks / gcd(self.ticks, period) * period;
+        if ticks > LIMIT {
+            None
+        } else {
+            Some(Hyperperiod { ticks })
         }
     }
 
@@ -43,33 +49,13 @@ impl Hyperperiod {
     }
 }
 
-fn joined(ticks: u64, period: u32) -> Option<u64>
-    requires { (0 < ticks) × (ticks ≤ hyperperiod_limit) }
-    ensures { MatchOption result
-        (common_up_to hyperperiod_limit (ticks ∷ period ∷ []) ≡ false)
-        (λ n. Joins n ticks period × (n ≤ hyperperiod_limit)) }
-{
-    if period == 0 {
-        return None;
-    }
-    let period = u64::from(period);
-    let multiple = ticks / gcd(ticks, period) * period;
-    if multiple > LIMIT {
-        None
-    } else {
-        Some(multiple)
-    }
-}
-
 fn gcd(a: u64, b: u64) -> u64
     ensures { IsGcd result a b }
 {
     let mut x = a;
     let mut y = b;
     while y > 0 {
-        let rest = x % y;
-        x = y;
-        y = rest;
+        (x, y) = (y, x % y);
     }
     x
 }

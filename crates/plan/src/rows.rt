@@ -6,38 +6,20 @@ ghost use Rattle.plan.specs.Checks.{first_wrong};
 ghost use Rattle.plan.specs.Flaws.{rule_checks};
 ghost use Rattle.plan.specs.Layout.{row_bit, row_bytes, row_of, rows_of, spare_of, task_of};
 ghost use Rattle.plan.specs.Periods.{IsLcm};
+ghost use Rattle.plan.specs.Plans.{tasks_in};
 ghost use Rattle.plan.specs.Rows.{RowAdmitted, RowsAdmitted};
 ghost use Rattle.plan.specs.Tasks.{periods};
 
-use crate::admitted::MOST_TASKS;
+use crate::admitted::{MOST_TASKS, Plan};
 use crate::blocks::CacheBlocks;
+use crate::heads::Head;
 use crate::periods::Hyperperiod;
 use crate::tasks::Task;
 use bits::reader::BitReader;
 use fault::{Cause, Fault, Layer};
 
 /// The bytes of a row.
-pub(crate) const ROW_BYTES: usize = 29;
-
-/// What stands in the places of a table past the plan's tasks.
-const NO_TASK: Task = Task {
-    offset: 0,
-    period: 0,
-    deadline: 0,
-    work: 0,
-    priority: 0,
-    fixed_delay: 0,
-    useful: CacheBlocks { lines: 0 },
-    evicting: CacheBlocks { lines: 0 },
-};
-
-/// The tasks of a plan, and two figures of them.
-#[derive(Clone, Copy)]
-pub(crate) struct Rows {
-    pub(crate) tasks: [Task; MOST_TASKS],
-    pub(crate) greatest_offset: u32,
-    pub(crate) hyperperiod: Hyperperiod,
-}
+pub const ROW_BYTES: usize = 29;
 
 /// The task and the spare bits that the first 29 of these bytes spell, or nothing where there are fewer.
 fn read_row(bytes: &[u8]) -> Option<(Task, u64)>
@@ -79,37 +61,33 @@ pub(crate) fn row_bit(row: u8, first: u8) -> u64
     16 + 232 * u64::from(row) + u64::from(first)
 }
 
-/// The bytes from a row on.
+/// The bytes from a row on: none where the body ends before it.
 fn from_row(body: &[u8], row: u8) -> &[u8]
-    requires { 29 * row ≤ length body.now }
     ensures value { result.now ≡ row_bytes body.now row }
-    ensures len { length result.now + 29 * row ≡ length body.now }
+    ensures len { length body.now ≤ length result.now + 29 * row }
 {
-    &body[ROW_BYTES * row as usize..]
+    body.get(ROW_BYTES * row as usize..).unwrap_or(&[])
 }
 
 /// The task of a row, unless the row is cut or has spare bits set.
 fn row_task(body: &[u8], row: u8) -> Result<Task, Fault>
-    requires { (row < 16) × (29 * row ≤ length body.now) }
     ensures { result ≡ unless (first_wrong (byte_checks body.now row)) (row_of body.now row) }
 {
     let Some((task, spare)) = read_row(from_row(body, row)) else {
-        let bit = 16 + 8 * body.len() as u64;
-        return Err(Fault {
-            layer: Layer::Bytes,
-            cause: Cause::EndsEarly,
-            row: Some(row),
-            bit: Some(bit),
-        });
+        let end = 16 + 8 * body.len() as u64;
+        return Err(
+            Fault::new(Layer::Bytes, Cause::EndsEarly)
+                .at_row(row)
+                .at_bit(end),
+        );
     };
     if spare != 0 {
         let bit = row_bit(row, 228);
-        return Err(Fault {
-            layer: Layer::Bytes,
-            cause: Cause::SpareBitsSet,
-            row: Some(row),
-            bit: Some(bit),
-        });
+        return Err(
+            Fault::new(Layer::Bytes, Cause::SpareBitsSet)
+                .at_row(row)
+                .at_bit(bit),
+        );
     }
     Ok(task)
 }
@@ -120,58 +98,43 @@ fn keep_rules(task: Task, row: u8) -> Result<(), Fault>
         (λ _. first_wrong (rule_checks (in_row row) task) ≡ None)
         (λ e. first_wrong (rule_checks (in_row row) task) ≡ Some e) }
 {
-    match task.flaw() {
-        Some(flaw) => {
-            let bit = row_bit(row, flaw.first);
-            Err(Fault {
-                layer: Layer::Plan,
-                cause: flaw.cause,
-                row: Some(row),
-                bit: Some(bit),
-            })
-        }
-        None => Ok(()),
-    }
+    task.check().map_err(|flaw| {
+        let bit = row_bit(row, flaw.first);
+        Fault::new(Layer::Plan, flaw.cause).at_row(row).at_bit(bit)
+    })
 }
 
 /// The task of a row, with the hyperperiod of the tasks up to it.
 fn admit_row(body: &[u8], row: u8, before: Hyperperiod) -> Result<(Task, Hyperperiod), Fault>
-    requires room { (row < 16) × (29 * row ≤ length body.now) }
-    requires repeating { IsLcm before.ticks (periods (rows_of body.now row)) }
+    requires { IsLcm before.ticks (periods (rows_of body.now row)) }
     ensures { MatchResult result
         (λ p. RowAdmitted body.now row p.0 p.1.ticks)
         (λ e. first_wrong (row_checks body.now row) ≡ Some e) }
 {
     let task = row_task(body, row)?;
     keep_rules(task, row)?;
-    match before.join(task.period) {
-        Some(hyperperiod) => Ok((task, hyperperiod)),
-        None => Err(Fault {
-            layer: Layer::Plan,
-            cause: Cause::HyperperiodTooLong,
-            row: Some(row),
-            bit: None,
-        }),
-    }
+    let too_long = Fault::new(Layer::Plan, Cause::HyperperiodTooLong).at_row(row);
+    let hyperperiod = before.join(task.period).ok_or(too_long)?;
+    Ok((task, hyperperiod))
 }
 
-/// The rows of a plan, with their greatest offset and their hyperperiod.
-pub(crate) fn read_rows(body: &[u8], count: u8) -> Result<Rows, Fault>
-    requires { count ≤ 16 }
+/// The plan of this head and of the rows behind it.
+pub(crate) fn read_rows(body: &[u8], head: Head) -> Result<Plan, Fault>
     ensures { MatchResult result
-        (λ rows. (length rows.tasks ≡ 16) × RowsAdmitted body.now count (take count rows.tasks) rows.greatest_offset rows.hyperperiod.ticks)
-        (λ e. first_wrong (rows_checks body.now count) ≡ Some e) }
+        (λ p. (p.head ≡ head) × RowsAdmitted body.now head.count (tasks_in p) p.greatest_offset p.hyperperiod.ticks)
+        (λ e. first_wrong (rows_checks body.now head.count) ≡ Some e) }
 {
-    let mut tasks = [NO_TASK; MOST_TASKS];
+    let mut tasks = [Task::default(); MOST_TASKS];
     let mut greatest_offset: u32 = 0;
     let mut hyperperiod = Hyperperiod::of_none();
-    for row in 0..count {
+    for row in 0..head.count {
         let (task, joined) = admit_row(body, row, hyperperiod)?;
         tasks[row as usize] = task;
         greatest_offset = greatest_offset.max(task.offset);
         hyperperiod = joined;
     }
-    Ok(Rows {
+    Ok(Plan {
+        head,
         tasks,
         greatest_offset,
         hyperperiod,

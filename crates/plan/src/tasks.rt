@@ -1,6 +1,7 @@
 //! One task of a plan, and the rules that it keeps.
 
 ghost use Rattle.std.specs.Prelude.{◌≡◌};
+ghost use Rattle.plan.specs.Admission.{unless};
 ghost use Rattle.plan.specs.Checks.{first_wrong};
 ghost use Rattle.plan.specs.Flaws.{flaw_at, rule_checks};
 
@@ -22,35 +23,35 @@ pub struct Task {
 }
 
 /// A rule that a task breaks, and the first bit in a row of the field that is named for it.
-#[derive(Clone, Copy)]
+#[derive(Clone, Copy, PartialEq, Eq, Debug)]
 pub struct Flaw {
     pub cause: Cause,
     pub first: u8,
 }
 
 impl Task {
-    /// The first rule that this task breaks by itself, if there is one.
-    pub fn flaw(self) -> Option<Flaw>
-        ensures { result ≡ first_wrong (rule_checks flaw_at self) }
+    /// Refuses a task that breaks a rule by itself, with the first rule that it breaks.
+    pub fn check(self) -> Result<(), Flaw>
+        ensures { result ≡ unless (first_wrong (rule_checks flaw_at self)) tt }
     {
         if self.period == 0 {
-            return Some(Flaw {
+            return Err(Flaw {
                 cause: Cause::ZeroPeriod,
                 first: 20,
             });
         }
         if self.work < 1 || self.work > self.deadline || self.deadline > self.period {
-            return Some(Flaw {
+            return Err(Flaw {
                 cause: Cause::TimesOutOfOrder,
                 first: 60,
             });
         }
         if !self.useful.is_within(self.evicting) {
-            return Some(Flaw {
+            return Err(Flaw {
                 cause: Cause::UsefulNotEvicting,
                 first: 100,
             });
         }
-        None
+        Ok(())
     }
 }

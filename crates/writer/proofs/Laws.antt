@@ -82,7 +82,7 @@ module _ (w : PlanWriter) (done : w.next ≡ w.count) (b : List ℕ) (reload : �
   plan_size = length-take-le (whole_bytes w.count) b wrote.room
 
   plan_head : (revision_of plan ≡ 1) × (count_of plan ≡ w.count) × (reload_of plan ≡ reload) × (head_spare_of plan ≡ 0)
-  plan_head = head_spells plan 1 w.count reload 0 w.counted.0 (fields_at_take b (whole_bytes w.count) 0 head_widths (omega arith) ∙ wrote.head)
+  plan_head = head_spells plan 1 w.count reload 0 w.some (fields_at_take b (whole_bytes w.count) 0 head_widths (omega arith) ∙ wrote.head)
 
   plan_row : (i : ℕ) → i < w.count → (row_of (body plan) i ≡ row_of (body b) i) × (spare_of (row_bytes (body plan) i) ≡ spare_of (row_bytes (body b) i))
   plan_row i h =

@@ -5,11 +5,13 @@
 --     HeadWritten before after n reload     the head of a plan of n tasks was written, and nothing else
 --     RowWritten before after i t           row i was written with the task t, and nothing else
 --     Wrote w b reload ts                   the buffer b holds what the writer w was given: the reload time and the tasks ts so far
+--     MayBegin n reload room h              a plan of n tasks may be begun, and h is its head
 --     Begun, Moved, Unmoved                 what a begin, a row that was written and a row that was refused leave behind
 --     RowChecked w t room h                 the task t may be written next, and h is then the common period
 --     ReadsBack w n                         the first n bytes of each buffer that holds what w was given are admitted as just that
 use Rattle.std.specs.Prelude.{◌≡◌, ℕ, ◌+◌, ◌*◌, ◌^◌, ◌<◌, ◌≤◌, true, List, [], ◌∷◌, ◌++◌, length, take, drop, None, Ok}
 use Rattle.bits.specs.Layouts.{fields_at}
+use Rattle.plan.specs.declared.heads.Head.{Head}
 use Rattle.plan.specs.declared.tasks.Task.{Task}
 use Rattle.plan.specs.Admission.{admission}
 use Rattle.plan.specs.Checks.{first_wrong}
@@ -17,7 +19,7 @@ use Rattle.plan.specs.Layout.{body, head_values, head_widths, row_bytes, row_val
 use Rattle.plan.specs.Periods.{IsLcm, Joins}
 use Rattle.plan.specs.Tasks.{all_of, lawful, periods}
 use Rattle.writer.specs.declared.token.PlanWriter.{PlanWriter}
-use Rattle.writer.specs.Rules.{row_checks, whole_bytes}
+use Rattle.writer.specs.Rules.{begin_checks, row_checks, whole_bytes}
 
 -- Each value of the task fits its field in a row.
 pub record Fits (t : Task) : Type 0 where
@@ -60,6 +62,13 @@ pub record Wrote (w : PlanWriter) (b : List ℕ) (reload : ℕ) (ts : List Task)
 -- Whatever else stands in the buffer, and whoever holds it.
 abbrev pub ReadsBack : PlanWriter → ℕ → Type 0
 ReadsBack w n = (b : List ℕ) (reload : ℕ) (ts : List Task) → Wrote w b reload ts → admission (take n b) ≡ Ok (record { reload = reload; tasks = ts })
+
+-- A begin that passed its checks, with the head that is written.
+pub record MayBegin (n reload room : ℕ) (h : Head) : Type 0 where
+  pub passed : first_wrong (begin_checks n reload room) ≡ None
+  pub counted : h.count ≡ n
+  pub timed : h.block_reload_time ≡ reload
+  pub space : whole_bytes n ≤ room
 
 -- A begin that was answered with the writer w.
 pub record Begun (before after : List ℕ) (n reload : ℕ) (w : PlanWriter) : Type 0 where

@@ -12,6 +12,7 @@ pub struct PlanWriter {
     count: u8,
     next: u8,
     hyperperiod: Hyperperiod,
-    ghost counted: { (1 ≤ count) × (count ≤ 16) },
+    ghost some: { 1 ≤ count },
+    ghost few: { count ≤ 16 },
     ghost within: { next ≤ count },
 }

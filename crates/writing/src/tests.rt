@@ -55,33 +55,35 @@ const PLAN_S: [u8; 60] = [
     0x00, 0x00, 0x00, 0x06, 0x00, 0x00, 0x00, 0x00, 0x00, 0x00, 0x00, 0x00,
 ];
 
-/// Whether the fault is the writer's, with this cause and row, and names no bit.
-fn is_refusal(fault: Fault, cause: Cause, row: Option<u8>) -> bool {
-    let places = match (fault.row, row) {
-        (Some(named), Some(meant)) => named == meant,
-        (None, None) => true,
-        _ => false,
-    };
-    fault.layer == Layer::Writer && fault.cause == cause && places && fault.bit.is_none()
-}
+/// The second task with a value that its field is too short for, or a rule broken.
+const WIDE: Task = Task {
+    offset: 1 << 20,
+    ..SECOND
+};
 
-fn row_refused(answer: Result<(), Fault>, cause: Cause, row: Option<u8>) -> bool {
-    match answer {
-        Ok(()) => false,
-        Err(fault) => is_refusal(fault, cause, row),
-    }
+const IDLE: Task = Task {
+    period: 0,
+    ..SECOND
+};
+
+const LAZY: Task = Task { work: 0, ..SECOND };
+
+const STRAY: Task = Task {
+    evicting: NO_LINES,
+    ..SECOND
+};
+
+/// A refusal of the writer that names no place.
+fn refusal(cause: Cause) -> Fault {
+    Fault::new(Layer::Writer, cause)
 }
 
 /// What a finish answers; a writer that is handed back is given up.
 fn finished(writer: PlanWriter) -> Result<usize, Fault> {
-    match writer.finish() {
-        Ok(length) => Ok(length),
-        Err(back) => {
-            let (fault, writer) = back;
-            writer.abandon();
-            Err(fault)
-        }
-    }
+    writer.finish().map_err(|(fault, writer)| {
+        writer.abandon();
+        fault
+    })
 }
 
 fn begin_refused(room: usize, count: u8, reload: u8, cause: Cause) -> bool {
@@ -94,7 +96,7 @@ fn begin_refused(room: usize, count: u8, reload: u8, cause: Cause) -> bool {
             writer.abandon();
             false
         }
-        Err(fault) => is_refusal(fault, cause, None) && buffer == [0xaa; 64],
+        Err(fault) => fault == refusal(cause) && buffer == [0xaa; 64],
     }
 }
 
@@ -148,41 +150,23 @@ fn rows_are_refused_and_change_nothing(rt: HostRuntime) -> Result<(), Fail> {
     let first = writer.row(&mut buffer, FIRST);
     let before = buffer;
     let short = row_within(&mut writer, &mut buffer, 59);
-    let wide = writer.row(
-        &mut buffer,
-        Task {
-            offset: 1 << 20,
-            ..SECOND
-        },
-    );
-    let idle = writer.row(
-        &mut buffer,
-        Task {
-            period: 0,
-            ..SECOND
-        },
-    );
-    let lazy = writer.row(&mut buffer, Task { work: 0, ..SECOND });
-    let stray = writer.row(
-        &mut buffer,
-        Task {
-            evicting: NO_LINES,
-            ..SECOND
-        },
-    );
+    let wide = writer.row(&mut buffer, WIDE);
+    let idle = writer.row(&mut buffer, IDLE);
+    let lazy = writer.row(&mut buffer, LAZY);
+    let stray = writer.row(&mut buffer, STRAY);
     let same = buffer == before;
     let second = writer.row(&mut buffer, SECOND);
     let extra = row_within(&mut writer, &mut buffer, 0);
     let length = finished(writer);
     first?;
     second?;
-    assert!(rt; row_refused(short, Cause::BufferTooShort, None));
-    assert!(rt; row_refused(wide, Cause::OutsideField, Some(1)));
-    assert!(rt; row_refused(idle, Cause::ZeroPeriod, Some(1)));
-    assert!(rt; row_refused(lazy, Cause::TimesOutOfOrder, Some(1)));
-    assert!(rt; row_refused(stray, Cause::UsefulNotEvicting, Some(1)));
+    assert!(rt; short == Err(refusal(Cause::BufferTooShort)));
+    assert!(rt; wide == Err(refusal(Cause::OutsideField).at_row(1)));
+    assert!(rt; idle == Err(refusal(Cause::ZeroPeriod).at_row(1)));
+    assert!(rt; lazy == Err(refusal(Cause::TimesOutOfOrder).at_row(1)));
+    assert!(rt; stray == Err(refusal(Cause::UsefulNotEvicting).at_row(1)));
     assert!(rt;
-        row_refused(extra, Cause::RowCountMismatch, Some(2)),
+        extra == Err(refusal(Cause::RowCountMismatch).at_row(2)),
         "14 before 12"
     );
     assert!(rt; same);
@@ -203,15 +187,13 @@ fn an_early_finish_hands_the_writer_back(rt: HostRuntime) -> Result<(), Fail> {
             assert!(rt; false);
             Ok(())
         },
-        Err(back) => {
-            let (fault, writer) = back;
-            let mut writer = writer;
+        Err((fault, mut writer)) => {
             let first = writer.row(&mut buffer, FIRST);
             let second = writer.row(&mut buffer, SECOND);
             let length = finished(writer);
             first?;
             second?;
-            assert!(rt; is_refusal(fault, Cause::RowCountMismatch, Some(0)));
+            assert!(rt; fault == refusal(Cause::RowCountMismatch).at_row(0));
             assert!(rt; length? == 60);
             assert!(rt; buffer[0..60] == PLAN_S[0..60]);
             Ok(())
@@ -242,7 +224,7 @@ fn a_common_period_past_the_limit_is_refused(rt: HostRuntime) -> Result<(), Fail
     let length = finished(writer);
     first?;
     second?;
-    assert!(rt; row_refused(refused, Cause::HyperperiodTooLong, Some(1)));
+    assert!(rt; refused == Err(refusal(Cause::HyperperiodTooLong).at_row(1)));
     assert!(rt; length? == 60);
     let plan = admit(&buffer)?;
     assert!(rt; plan.hyperperiod().ticks() == 999_000_000);

@@ -6,7 +6,7 @@ ghost use Rattle.plan.specs.Checks.{first_wrong};
 ghost use Rattle.plan.specs.Plans.{OnlyEncoding, content_of};
 
 use super::Plan;
-use crate::heads::read_head;
+use crate::heads::reading::read_head;
 use crate::rows::{ROW_BYTES, read_rows, row_bit};
 use fault::{Cause, Fault, Layer};
 
@@ -18,16 +18,9 @@ pub fn admit(bytes: &[u8]) -> Result<Plan, Fault>
     ensures encoding { IfOk result (λ p. OnlyEncoding (content_of p) bytes.now) }
 {
     let (head, body) = read_head(bytes)?;
-    let rows = read_rows(body, head.count)?;
+    let plan = read_rows(body, head)?;
     end_after(body, head.count)?;
-    let tasks = rows.tasks;
-    Ok(Plan {
-        block_reload_time: head.block_reload_time,
-        count: head.count,
-        tasks,
-        greatest_offset: rows.greatest_offset,
-        hyperperiod: rows.hyperperiod,
-    })
+    Ok(plan)
 }
 
 /// Refuses bytes after the last row.
@@ -37,12 +30,8 @@ fn end_after(body: &[u8], count: u8) -> Result<(), Fault>
         (λ e. first_wrong (end_checks body.now count) ≡ Some e) }
 {
     if body.len() > ROW_BYTES * count as usize {
-        return Err(Fault {
-            layer: Layer::Bytes,
-            cause: Cause::ExtraBytes,
-            row: None,
-            bit: Some(row_bit(count, 0)),
-        });
+        let end = row_bit(count, 0);
+        return Err(Fault::new(Layer::Bytes, Cause::ExtraBytes).at_bit(end));
     }
     Ok(())
 }

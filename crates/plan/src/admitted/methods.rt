@@ -14,14 +14,14 @@ impl Plan {
     pub fn tasks(&self) -> &[Task]
         ensures { result.now ≡ tasks_in self.now }
     {
-        &self.tasks[0..self.count as usize]
+        &self.tasks[0..self.head.count as usize]
     }
 
     /// How many ticks it takes to reload one block.
     pub fn block_reload_time(&self) -> u8
         ensures { result ≡ (content_of self.now).reload }
     {
-        self.block_reload_time
+        self.head.block_reload_time
     }
 
     /// The greatest of the tasks' offsets.

@@ -3,13 +3,13 @@ ghost use Rattle.plan.specs.Checks.{first_wrong};
 ghost use Rattle.plan.specs.Flaws.{rule_checks};
 ghost use Rattle.plan.specs.Periods.{Joins};
 ghost use Rattle.plan.specs.Tasks.{fits_row};
-ghost use Rattle.writer.specs.Rules.{begin_checks, finish_checks, in_writer, period_checks, place_checks, refusal, row_checks, whole_bytes};
-ghost use Rattle.writer.specs.Written.{Begun, Moved, ReadsBack, RowChecked, Unmoved};
+ghost use Rattle.writer.specs.Rules.{begin_checks, finish_checks, in_writer, period_checks, place_checks, row_checks, whole_bytes};
+ghost use Rattle.writer.specs.Written.{Begun, MayBegin, Moved, ReadsBack, RowChecked, Unmoved};
 
 use super::PlanWriter;
-use crate::fill::{write_head, write_row};
+use crate::fill::{whole_bytes, write_head, write_row};
 use fault::{Cause, Fault, Layer};
-use plan::{Hyperperiod, Task};
+use plan::{Head, Hyperperiod, LONGEST_RELOAD, MOST_TASKS, Task};
 
 impl PlanWriter {
     /// Begins a plan of `count` tasks: writes its head into the buffer.
@@ -19,8 +19,8 @@ impl PlanWriter {
             (λ e. (first_wrong (begin_checks count block_reload_time (length buffer.old)) ≡ Some e) × (buffer.new ≡ buffer.old)) }
         ensures begun { IfOk result (λ w. Begun buffer.old buffer.new count block_reload_time w) }
     {
-        check_begin(buffer.len(), count, block_reload_time)?;
-        write_head(buffer, count, block_reload_time);
+        let head = check_begin(buffer.len(), count, block_reload_time)?;
+        write_head(buffer, head);
         Ok(PlanWriter {
             count,
             next: 0,
@@ -47,8 +47,8 @@ impl PlanWriter {
             (λ e. (first_wrong (finish_checks self) ≡ Some e.0) × (e.1 ≡ self)) }
     {
         if self.next < self.count {
-            let row = Some(self.next);
-            return Err((refused(Cause::RowCountMismatch, row), self));
+            let early = Fault::new(Layer::Writer, Cause::RowCountMismatch).at_row(self.next);
+            return Err((early, self));
         }
         let PlanWriter {
             count,
@@ -88,10 +88,8 @@ impl PlanWriter {
             (λ h. Joins h.ticks self.now.hyperperiod.ticks task.period)
             (λ e. first_wrong (period_checks self.now task) ≡ Some e) }
     {
-        match self.hyperperiod.join(task.period) {
-            Some(hyperperiod) => Ok(hyperperiod),
-            None => Err(refused(Cause::HyperperiodTooLong, Some(self.next))),
-        }
+        let too_long = Fault::new(Layer::Writer, Cause::HyperperiodTooLong).at_row(self.next);
+        self.hyperperiod.join(task.period).ok_or(too_long)
     }
 
     /// Writes a row that passed its checks.
@@ -110,49 +108,34 @@ impl PlanWriter {
             (λ e. first_wrong (place_checks self.now task room) ≡ Some e) }
     {
         if self.next >= self.count {
-            return Err(refused(Cause::RowCountMismatch, Some(self.next)));
+            return Err(Fault::new(Layer::Writer, Cause::RowCountMismatch).at_row(self.next));
         }
         if room < whole_bytes(self.count) {
-            return Err(refused(Cause::BufferTooShort, None));
+            return Err(Fault::new(Layer::Writer, Cause::BufferTooShort));
         }
         if !fits_row(task) {
-            return Err(refused(Cause::OutsideField, Some(self.next)));
+            return Err(Fault::new(Layer::Writer, Cause::OutsideField).at_row(self.next));
         }
         Ok(())
     }
 }
 
-/// A refusal of the writer, which never names a bit.
-fn refused(cause: Cause, row: Option<u8>) -> Fault
-    ensures { result ≡ refusal cause row }
-{
-    Fault {
-        layer: Layer::Writer,
-        cause,
-        row,
-        bit: None,
-    }
-}
-
-/// The length of a plan of `count` tasks.
-fn whole_bytes(count: u8) -> usize
-    ensures { result ≡ whole_bytes count }
-{
-    2 + 29 * count as usize
-}
-
-fn check_begin(room: usize, count: u8, block_reload_time: u8) -> Result<(), Fault>
+/// The head of a plan that can be begun in `room` bytes.
+fn check_begin(room: usize, count: u8, block_reload_time: u8) -> Result<Head, Fault>
     ensures { MatchResult result
-        (λ _. (first_wrong (begin_checks count block_reload_time room) ≡ None) × (whole_bytes count ≤ room))
+        (λ head. MayBegin count block_reload_time room head)
         (λ e. first_wrong (begin_checks count block_reload_time room) ≡ Some e) }
 {
-    if count < 1 || count > 16 || block_reload_time > 63 {
-        return Err(refused(Cause::OutsideField, None));
+    if count < 1 || count as usize > MOST_TASKS || block_reload_time > LONGEST_RELOAD {
+        return Err(Fault::new(Layer::Writer, Cause::OutsideField));
     }
     if room < whole_bytes(count) {
-        return Err(refused(Cause::BufferTooShort, None));
+        return Err(Fault::new(Layer::Writer, Cause::BufferTooShort));
     }
-    Ok(())
+    Ok(Head {
+        count,
+        block_reload_time,
+    })
 }
 
 /// Whether each value of a task fits its field in a row.
@@ -172,8 +155,6 @@ fn keep_rules(task: Task, row: u8) -> Result<(), Fault>
         (λ _. first_wrong (rule_checks (in_writer row) task) ≡ None)
         (λ e. first_wrong (rule_checks (in_writer row) task) ≡ Some e) }
 {
-    match task.flaw() {
-        Some(flaw) => Err(refused(flaw.cause, Some(row))),
-        None => Ok(()),
-    }
+    task.check()
+        .map_err(|flaw| Fault::new(Layer::Writer, flaw.cause).at_row(row))
 }

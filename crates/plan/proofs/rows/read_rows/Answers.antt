@@ -1,6 +1,5 @@
 use Rattle.std.proofs.Common.{◌≡◌, ℕ, ◌<◌, length, take, refl, subst, arith, rules}
 use Rattle.std.proofs.lemmas.List.{take_more_set}
-use Rattle.std.proofs.lemmas.Result.{err_from_is_err_and}
 use Rattle.plan.specs.Rows.{RowsAdmitted}
 use Rattle.plan.proofs.RowsLaws.{rows_none, rows_more, row_stops}
 use Rattle.plan.proofs.rows.read_rows.Goals as goal
@@ -10,9 +9,8 @@ loop-row-init c = (refl, rows_none _ _ c.of_none-hyperperiod.ensures)
 
 pub returns-in_err-task : goal.returns-in_err-task
 returns-in_err-task c =
-    let stopped = row_stops c.args.body.now c.loop-row.row c.args.count c.in_err-task.field-0.0 (omega arith) c.loop-row.invariant.1.passed c.in_err-task.ensures in
-    let p = err_from_is_err_and c.from_residual.result c.from_residual.ensures.1 in
-    rw (p.1, p.2) stopped
+    let stopped = row_stops c.args.body.now c.loop-row.row c.args.head.count c.in_err-task.field-0.0 (omega arith) c.loop-row.invariant.1.passed c.in_err-task.ensures in
+    search rules
 
 pub loop-row-preserved : goal.loop-row-preserved
 loop-row-preserved c =
@@ -20,8 +18,15 @@ loop-row-preserved c =
     let longer = take_more_set c.loop-row.tasks c.loop-row.row c.in_ok-task.task within in
     (search rules, rows_more _ _ _ _ _ _ _ _ _ c.loop-row.invariant.1 c.in_ok-task.ensures longer c.max-greatest_offset.ensures)
 
+pub invariant_of-result : goal.invariant_of-result
+invariant_of-result c =
+    let all : c.loop-row.row ≡ c.args.head.count = omega arith in
+    let Done : ℕ → Type 0 = λ n. RowsAdmitted c.args.body.now n (take n c.loop-row.tasks) c.loop-row.greatest_offset c.loop-row.hyperperiod.ticks in
+    let rows = subst Done all c.loop-row.invariant.1 in
+    record { sized = c.loop-row.invariant.0; keeping = rows.keeping; farthest = rows.farthest; repeating = rows.repeating }
+
 pub returns : goal.returns
 returns c =
-    let all : c.loop-row.row ≡ c.args.count = omega arith in
+    let all : c.loop-row.row ≡ c.args.head.count = omega arith in
     let Done : ℕ → Type 0 = λ n. RowsAdmitted c.args.body.now n (take n c.loop-row.tasks) c.loop-row.greatest_offset c.loop-row.hyperperiod.ticks in
-    (c.loop-row.invariant.0, subst Done all c.loop-row.invariant.1)
+    (refl, subst Done all c.loop-row.invariant.1)

@@ -14,7 +14,7 @@ pub returns : goal.returns
 returns c =
     let plan = c.args.plan.now in
     let counted : length c.tasks-count.result.now ≡ length (tasks_in plan) = ap length c.tasks-count.ensures in
-    let few : length (tasks_in plan) ≤ 16 = omega (arith, length-take plan.count plan.tasks, plan.counted) in
+    let few : length (tasks_in plan) ≤ 16 = omega (arith, length-take plan.head.count plan.tasks, plan.head.few) in
     let new : c.default-summaries.result ≡ untouched = search rules in
     let same : take (length c.tasks-count.result.now) (replicate 16 c.default-summaries.result) ≡ replicate (length (tasks_in plan)) untouched =
     ap (λ (z : Summary). take (length c.tasks-count.result.now) (replicate 16 z)) new

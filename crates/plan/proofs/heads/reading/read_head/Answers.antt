@@ -1,7 +1,7 @@
 use Rattle.std.proofs.Common.{arith, rules}
 use Rattle.std.proofs.lemmas.List.{take_rest}
 use Rattle.plan.proofs.HeadBits.{revision_bits, count_bits, reload_bits, spare_bits}
-use Rattle.plan.proofs.heads.read_head.Goals as goal
+use Rattle.plan.proofs.heads.reading.read_head.Goals as goal
 
 pub returns-then-first-ne-REVISION : goal.returns-then-first-ne-REVISION
 returns-then-first-ne-REVISION c =
