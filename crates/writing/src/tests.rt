@@ -110,12 +110,7 @@ fn row_within(writer: &mut PlanWriter, buffer: &mut [u8], room: usize) -> Result
 
 /// Sixteen times the greatest values: whether every row was written.
 fn write_rows(writer: &mut PlanWriter, buffer: &mut [u8]) -> bool {
-    for _ in 0..16 {
-        if writer.row(buffer, GREATEST).is_err() {
-            return false;
-        }
-    }
-    true
+    (0..16).all(|_| writer.row(buffer, GREATEST).is_ok())
 }
 
 #[test]
