@@ -1,14 +1,15 @@
 -- Rows that pass: what has to hold of the bytes for admission to find nothing wrong.
-use Rattle.std.proofs.Common.{◌≡◌, ℕ, zero, suc, ◌+◌, ◌*◌, ◌<◌, ◌≤◌, Bool, true, false, cond, not, List, [], ◌∷◌, ◌++◌, length, Some, None, Option, sym, refl, ap, ◌∙◌, subst, arith, length-drop}
+use Rattle.std.proofs.Common.{◌≡◌, ℕ, zero, suc, ◌+◌, ◌*◌, ◌<◌, ◌≤◌, Bool, true, false, cond, List, [], ◌∷◌, ◌++◌, length, Some, None, Option, sym, refl, ap, ◌∙◌, subst, arith, length-drop}
 use Rattle.std.proofs.lemmas.List.FromFn.{map-range_with_len_more}
 use Rattle.std.proofs.lemmas.List.{map_push}
-use Rattle.std.proofs.lemmas.Bool.{and_parts, and_from, cond-false, eq-eqb, le-ltb, not_from_true, not-true}
+use Rattle.std.proofs.lemmas.Bool.{and_parts, and_from, cond-false, eq-eqb, le-ltb, not_from_true}
+use Rattle.std.proofs.lemmas.Bool.Decides.{nat_tests}
 use Rattle.plan.specs.declared.tasks.Task.{Task}
 use Rattle.plan.specs.Admission.{row_checks, rows_checks}
 use Rattle.plan.specs.Checks.{first_wrong}
 use Rattle.plan.specs.Layout.{row_bytes, row_of, rows_of, spare_of}
 use Rattle.plan.specs.Periods.{common, hyperperiod_limit}
-use Rattle.plan.specs.Tasks.{all_of, fits_row, lawful, periods, times_out_of_order, useful_not_evicting, zero_period}
+use Rattle.plan.specs.Tasks.{all_of, lawful, periods, times_out_of_order, useful_not_evicting, zero_period}
 use Rattle.plan.proofs.Commons.{common_found, common_pushed}
 use Rattle.plan.proofs.RowsLaws.{row_passes}
 
@@ -24,11 +25,7 @@ all_pushed p (y ∷ xs) x e =
 
 -- what lawful says, rule by rule
 rules_of : (t : Task) → lawful t ≡ true → (zero_period t ≡ false) × (times_out_of_order t ≡ false) × (useful_not_evicting t ≡ false)
-rules_of t e =
-    let useful = and_parts _ (not (useful_not_evicting t)) e in
-    let times = and_parts _ (not (times_out_of_order t)) useful.0 in
-    let period = and_parts (fits_row t) (not (zero_period t)) times.0 in
-    (not-true _ period.1, not-true _ times.1, not-true _ useful.1)
+rules_of t e = (grind (arith, nat_tests), grind (arith, nat_tests), grind (arith, nat_tests))
 
 module _ (b : List ℕ) (h : ℕ) (some : 0 < h) (small : h ≤ hyperperiod_limit) where
   row_ok : (i : ℕ) → 29 * (i + 1) ≤ length b → spare_of (row_bytes b i) ≡ 0 → lawful (row_of b i) ≡ true → common h (periods (rows_of b (i + 1))) ≡ true → first_wrong (row_checks b i) ≡ None

@@ -3,6 +3,7 @@ use Rattle.std.proofs.Common.{◌≡◌, ℕ, ◌+◌, ◌*◌, ◌^◌, ◌≤�
 use Rattle.std.proofs.lemmas.List.FromFn.{map-range_with_len_more}
 use Rattle.std.proofs.lemmas.List.{map_push}
 use Rattle.std.proofs.lemmas.Bool.{and_from, lt-ltb, ltb-false, not_from_true, not_from_false, cond-true, cond-false}
+use Rattle.std.proofs.lemmas.Bool.Decides.{nat_tests}
 use Rattle.bits.proofs.Fields.{spelled_below_power}
 use Rattle.bits.specs.Bits.{spelled}
 use Rattle.fault.specs.declared.Cause.{Cause}
@@ -38,8 +39,7 @@ rules_kept at t e =
     (first.0, second.0, (none_left (useful_not_evicting t) _ _ second.1).0)
 
 pub lawful_from : (t : Task) → fits_row t ≡ true → (zero_period t ≡ false) × (times_out_of_order t ≡ false) × (useful_not_evicting t ≡ false) → lawful t ≡ true
-lawful_from t fits k =
-    and_from _ _ (and_from _ _ (and_from _ _ fits (not_from_false _ k.0)) (not_from_false _ k.1)) (not_from_false _ k.2)
+lawful_from t fits k = grind (arith, nat_tests)
 
 -- A row whose bytes are in order and whose task keeps the rules.
 module _ (b : List ℕ) (i : ℕ) (t : Task)

@@ -1,5 +1,6 @@
 -- The rows of a plan, one after another.
-use Rattle.std.proofs.Common.{◌≡◌, ℕ, zero, suc, ◌+◌, ◌-◌, ◌<◌, max, Bool, true, List, [], ◌∷◌, ◌++◌, Some, None, sym, refl, ap, ◌∙◌, subst, append_assoc, zero-add, arith}
+use Rattle.std.proofs.Common.{◌≡◌, ℕ, zero, suc, ◌+◌, ◌-◌, ◌<◌, max, Bool, true, List, [], ◌∷◌, ◌++◌, Some, None, sym, refl, ap, ◌∙◌, subst, zero-add, arith}
+use Rattle.std.proofs.lemmas.Grind.{flat_map-append}
 use Rattle.std.proofs.lemmas.List.FromFn.{map-range_with_len_more}
 use Rattle.std.proofs.lemmas.List.{map_push}
 use Rattle.std.proofs.lemmas.Bool.{and_from, and_parts}
@@ -15,10 +16,6 @@ use Rattle.plan.specs.Tasks.{all_of, greatest, lawful, offsets, periods}
 use Rattle.plan.proofs.Commons.{lcm_none}
 use Rattle.plan.proofs.FirstWrong.{passed_before, wrong_before}
 
-joined_append : {X Y : Type 0} (f : X → List Y) (xs ys : List X) → flat_map f (xs ++ ys) ≡ flat_map f xs ++ flat_map f ys
-joined_append f [] ys = refl
-joined_append f (x ∷ xs) ys = ap (λ (z : List _). f x ++ z) (joined_append f xs ys) ∙ sym (append_assoc (f x) (flat_map f xs) (flat_map f ys))
-
 counting_split : (a m k n : ℕ) → n ≡ m + k → range_with_len a n ≡ range_with_len a m ++ range_with_len (a + m) k
 counting_split a zero k n e =
     let same : n ≡ k = omega arith in
@@ -33,7 +30,7 @@ counting_split a (suc m) k (suc n) e =
 pub rows_split : (b : List ℕ) (i k n : ℕ) → n ≡ i + suc k → rows_checks b n ≡ rows_checks b i ++ (row_checks b i ++ flat_map (row_checks b) (range_with_len (i + 1) k))
 rows_split b i k n e =
     ap (flat_map (row_checks b)) (counting_split 0 i (suc k) n e ∙ ap (λ (z : ℕ). range_with_len 0 i ++ range_with_len z (suc k)) (zero-add i))
-    ∙ joined_append (row_checks b) (range_with_len 0 i) (range_with_len i (suc k))
+    ∙ flat_map-append (row_checks b) (range_with_len 0 i) (range_with_len i (suc k))
 
 pub row_stops : (b : List ℕ) (i n : ℕ) (f : Fault) → i < n → first_wrong (rows_checks b i) ≡ None → first_wrong (row_checks b i) ≡ Some f → first_wrong (rows_checks b n) ≡ Some f
 row_stops b i n f h p w =

@@ -1,6 +1,7 @@
 -- From the checks of a row's place, rules and common period to those of the whole row.
-use Rattle.std.proofs.Common.{◌≡◌, ℕ, ◌^◌, ◌≤◌, true, not, ltb, leb, ◌++◌, Some, None, ◌∙◌}
-use Rattle.std.proofs.lemmas.Bool.{and_parts, cond-false, leb-false, ltb-false, ltb-true, not-false, not_from_true}
+use Rattle.std.proofs.Common.{◌≡◌, ℕ, ◌≤◌, true, not, ltb, leb, ◌++◌, Some, None, ◌∙◌, arith}
+use Rattle.std.proofs.lemmas.Bool.{cond-false, leb-false, ltb-false, not-false, not_from_true}
+use Rattle.std.proofs.lemmas.Bool.Decides.{nat_tests}
 use Rattle.fault.specs.declared.Fault.{Fault}
 use Rattle.plan.proofs.Commons.{common_found, lcm_pair}
 use Rattle.plan.proofs.FirstWrong.{none_left, passed_before, wrong_before}
@@ -15,21 +16,13 @@ use Rattle.writer.specs.Rules.{in_writer, period_checks, place_checks, row_check
 use Rattle.writer.specs.Written.{Fits, RowChecked}
 
 fits_parts : (t : Task) → fits_row t ≡ true → Fits t
-fits_parts t e =
-    let evicting = and_parts _ (ltb t.evicting.lines (2 ^ 64)) e in
-    let useful = and_parts _ (ltb t.useful.lines (2 ^ 64)) evicting.0 in
-    let delay = and_parts _ (ltb t.fixed_delay (2 ^ 12)) useful.0 in
-    let priority = and_parts _ (ltb t.priority (2 ^ 8)) delay.0 in
-    let work = and_parts _ (ltb t.work (2 ^ 20)) priority.0 in
-    let deadline = and_parts _ (ltb t.deadline (2 ^ 20)) work.0 in
-    let period = and_parts (ltb t.offset (2 ^ 20)) (ltb t.period (2 ^ 20)) deadline.0 in
-    record {
-      offset = ltb-true _ _ period.0;
-      period = ltb-true _ _ period.1;
-      deadline = ltb-true _ _ deadline.1;
-      work = ltb-true _ _ work.1;
-      delay = ltb-true _ _ delay.1;
-    }
+fits_parts t e = record {
+  offset = grind (arith, nat_tests);
+  period = grind (arith, nat_tests);
+  deadline = grind (arith, nat_tests);
+  work = grind (arith, nat_tests);
+  delay = grind (arith, nat_tests);
+}
 
 module _ (w : PlanWriter) (t : Task) (room : ℕ) where
   pub place_refuses : (f : Fault) → first_wrong (place_checks w t room) ≡ Some f → first_wrong (row_checks w t room) ≡ Some f

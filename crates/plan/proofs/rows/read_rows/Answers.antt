@@ -18,13 +18,6 @@ loop-row-preserved c =
     let longer = take_more_set c.loop-row.tasks c.loop-row.row c.in_ok-task.task within in
     (search rules, rows_more _ _ _ _ _ _ _ _ _ c.loop-row.invariant.1 c.in_ok-task.ensures longer c.max-greatest_offset.ensures)
 
-pub invariant_of-result : goal.invariant_of-result
-invariant_of-result c =
-    let all : c.loop-row.row ≡ c.args.head.count = omega arith in
-    let Done : ℕ → Type 0 = λ n. RowsAdmitted c.args.body.now n (take n c.loop-row.tasks) c.loop-row.greatest_offset c.loop-row.hyperperiod.ticks in
-    let rows = subst Done all c.loop-row.invariant.1 in
-    record { sized = c.loop-row.invariant.0; keeping = rows.keeping; farthest = rows.farthest; repeating = rows.repeating }
-
 pub returns : goal.returns
 returns c =
     let all : c.loop-row.row ≡ c.args.head.count = omega arith in
