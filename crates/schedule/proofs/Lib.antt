@@ -1,7 +1,7 @@
 pub mod Eaches
 pub mod Losses
 pub mod Delays
-pub mod Bounds
+pub mod Places
 pub mod Calendars
 pub mod Owing
 pub mod Choices

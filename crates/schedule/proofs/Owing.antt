@@ -4,7 +4,7 @@ use Rattle.std.proofs.lemmas.Bool.{cond_both}
 use Rattle.delay.specs.Marks.{zero_mark}
 use Rattle.delay.specs.Profiles.{Profile}
 use Rattle.delay.specs.declared.mark.Mark.{Mark}
-use Rattle.schedule.proofs.Bounds.{bounded_set}
+use Rattle.schedule.proofs.Places.{placed_set}
 use Rattle.schedule.specs.Jobs.{vacant}
 use Rattle.schedule.specs.States.{Setting, State, slot_of}
 use Rattle.schedule.specs.Ticks.{all_lost, answered, began, delay_to, is_running, resumed, served, settled, spent, switched, worked}
@@ -26,10 +26,10 @@ module _ (c : Setting) (small : Small c.profile) where
   resumed_owing : (b j : ℕ) (s : State) → Owing b s → Owing (b + 4096) (resumed c j s)
   resumed_owing b j s h =
       let answer : answered c j s ≤ 4096 = small j (get_or (all_lost c j s) j zero_mark) in
-      bounded_set (λ s. s.owed) vacant (b + 4096) s.slots j _ (omega (arith, h j)) (λ i. omega (arith, h i))
+      placed_set (λ _ v. v.owed ≤ b + 4096) vacant s.slots j _ (omega (arith, h j)) (λ i. omega (arith, h i))
 
   began_owing : (b j : ℕ) (s : State) → Owing b s → Owing (b + 4096) (began c j s)
-  began_owing b j s h = bounded_set (λ s. s.owed) vacant (b + 4096) s.slots j _ (omega (arith, h j)) (λ i. omega (arith, h i))
+  began_owing b j s h = placed_set (λ _ v. v.owed ≤ b + 4096) vacant s.slots j _ (omega (arith, h j)) (λ i. omega (arith, h i))
 
   switched_owing : (b j : ℕ) (s : State) → Owing b s → Owing (b + 4096) (switched c j s)
   switched_owing b j s h = go (is_running s j) (slot_of s j).begun where
@@ -39,11 +39,11 @@ module _ (c : Setting) (small : Small c.profile) where
     go false false = began_owing b j s h
 
   spent_owing : (b j : ℕ) (s : State) → Owing b s → Owing b (spent c j s)
-  spent_owing b j s h = bounded_set (λ s. s.owed) vacant b s.slots j (worked (slot_of s j)) (omega (arith, h j)) h
+  spent_owing b j s h = placed_set (λ _ v. v.owed ≤ b) vacant s.slots j (worked (slot_of s j)) (omega (arith, h j)) h
 
   settled_owing : (b j : ℕ) (s : State) → Owing b s → Owing b (settled j s)
   settled_owing b j s h =
-      cond_both {A = State} (eqb (slot_of s j).left 0) _ _ (Owing b) (λ _. bounded_set (λ s. s.owed) vacant b s.slots j vacant (omega arith) h) (λ _. h)
+      cond_both {A = State} (eqb (slot_of s j).left 0) _ _ (Owing b) (λ _. placed_set (λ _ v. v.owed ≤ b) vacant s.slots j vacant (omega arith) h) (λ _. h)
 
   pub served_owing : (b j : ℕ) (s : State) → Owing b s → Owing (b + 4096) (served c (Some j) s)
   served_owing b j s h =
@@ -51,4 +51,4 @@ module _ (c : Setting) (small : Small c.profile) where
 
   pub charged_small : (b j : ℕ) (ds : List ℕ) (s : State) → ((i : ℕ) → get_or ds i 0 ≤ b) → (i : ℕ) → get_or (set ds j (get_or ds j 0 + delay_to c j s)) i 0 ≤ b + 4096
   charged_small b j ds s h =
-      bounded_set (λ n. n) 0 (b + 4096) ds j (get_or ds j 0 + delay_to c j s) (omega (arith, h j, delay_small j s)) (λ i. omega (arith, h i))
+      placed_set (λ _ n. n ≤ b + 4096) 0 ds j (get_or ds j 0 + delay_to c j s) (omega (arith, h j, delay_small j s)) (λ i. omega (arith, h i))

@@ -1,4 +1,5 @@
 pub mod Jobs
+pub mod Calendars
 pub mod Each
 pub mod States
 pub mod Ticks

@@ -1,19 +1,26 @@
 -- What the contracts of the code cite, besides the definitions of the schedule. Assumes nothing.
 --     unruled ts p           the tasks ts under the profile p, for steps that ask no policy
 --     timed ts               the tasks ts alone, for steps that ask neither policy nor model
+--     next_in k              the numbers of the next jobs in a calendar
+--     next_at k i            that of task i
+--     task_in k i            task i of a calendar's plan
 --     state_of b ms          the state of a table of jobs and the marks of a model
 --     moment_of b ms         the moment of a schedule and the marks of a model
 --     is_below n o           o is none, or a number below n
 --     row_of_switch t j m o  the row of a switch to job m of task j at instant t, where o is the delay or none
 --     Ticked c t x y rows    tick t leads from the moment x to the moment y and writes these rows
-use Rattle.std.specs.Prelude.{◌≡◌, ℕ, Bool, true, List, Some, None, Option, nat_lt}
+use Rattle.std.specs.Prelude.{◌≡◌, ℕ, Bool, true, List, map, Some, None, Option, nat_lt, slice_index, slice_index_or}
+use Rattle.delay.specs.Figures.{zero_task}
 use Rattle.delay.specs.Models.{no_delay}
 use Rattle.delay.specs.Profiles.{Profile}
 use Rattle.delay.specs.declared.mark.Mark.{Mark}
+use Rattle.plan.specs.Plans.{tasks_in}
 use Rattle.plan.specs.declared.tasks.Task.{Task}
 use Rattle.schedule.specs.Rows.{job_row, switch_row}
 use Rattle.schedule.specs.States.{Moment, Setting, State}
 use Rattle.schedule.specs.Ticks.{tick}
+use Rattle.schedule.specs.declared.calendar.Calendar.{Calendar}
+use Rattle.schedule.specs.declared.calendar.next_job.NextJob.{NextJob}
 use Rattle.schedule.specs.declared.jobs.JobTable.{JobTable}
 use Rattle.schedule.specs.declared.rows.SwitchRow.{SwitchRow}
 use Rattle.schedule.specs.declared.rows.TickRows.{TickRows}
@@ -27,13 +34,25 @@ unruled ts p = record { tasks = ts; rule = λ _ _. None; profile = p; hyperperio
 abbrev pub timed : List Task → Setting
 timed ts = unruled ts no_delay
 
+-- Of all 16 places, by task number.
+abbrev pub next_in : Calendar → List ℕ
+next_in k = map (λ (j : NextJob). j.number) k.jobs
+
+-- One of these.
+abbrev pub next_at : Calendar → ℕ → ℕ
+next_at k i = slice_index (next_in k) i
+
+-- By its number, counted from 0.
+abbrev pub task_in : Calendar → ℕ → Task
+task_in k i = slice_index_or (tasks_in k.plan) i zero_task
+
 -- The marks are the model's own.
 abbrev pub state_of : JobTable → List Mark → State
 state_of b ms = record { slots = b.slots; marks = ms; running = b.running }
 
 -- The instant is the schedule's clock.
 abbrev pub moment_of : Schedule → List Mark → Moment
-moment_of b ms = record { state = state_of b.jobs ms; next = b.calendar.next; delays = b.jobs.delays }
+moment_of b ms = record { state = state_of b.jobs ms; next = next_in b.calendar; delays = b.jobs.delays }
 
 -- A policy names only a task of the plan.
 abbrev pub is_below : ℕ → Option ℕ → Bool

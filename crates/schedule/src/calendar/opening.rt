@@ -1,10 +1,13 @@
 //! The calendar at instant 0.
 
-ghost use Rattle.std.specs.Prelude.{◌≡◌, ℕ, ◌+◌, ◌<◌, ◌≤◌, true, length, replicate, slice_index, slice_index_or};
+ghost use Rattle.std.specs.Prelude.{◌≡◌, ℕ, ◌<◌, ◌≤◌, true, length, map, replicate, slice_index_or};
 ghost use Rattle.delay.specs.Figures.{zero_task};
 ghost use Rattle.plan.specs.Tasks.{all_of, lawful};
+ghost use Rattle.schedule.specs.Calendars.{next_job, no_job};
+ghost use Rattle.schedule.specs.Tables.{next_in};
+ghost use Rattle.schedule.specs.declared.calendar.next_job.NextJob.{NextJob};
 
-use super::Calendar;
+use super::{Calendar, NextJob};
 use plan::{MOST_TASKS, Plan, Task};
 
 impl Calendar {
@@ -12,44 +15,29 @@ impl Calendar {
     pub(crate) fn new(plan: &Plan) -> Self
         ensures plan { result.plan ≡ plan.now }
         ensures clock { result.clock ≡ 0 }
-        ensures next { result.next ≡ replicate 16 0 }
+        ensures next { next_in result ≡ replicate 16 0 }
     {
-        let releases = first_releases(plan.tasks());
-        let deadlines = first_deadlines(plan.tasks());
+        let jobs = first_jobs(plan.tasks());
         Calendar {
             plan: *plan,
             clock: 0,
-            next: [0; MOST_TASKS],
-            releases,
-            deadlines,
+            jobs,
         }
     }
 }
 
-/// The instants at which job 0 of each task is released.
-fn first_releases(tasks: &[Task]) -> [u64; MOST_TASKS]
-    requires { length tasks.now ≤ 16 }
-    ensures size { length result ≡ 16 }
-    ensures value { (i : ℕ) → i < length tasks.now → slice_index result i ≡ (slice_index_or tasks.now i zero_task).offset }
-{
-    let mut releases = [0; MOST_TASKS];
-    for (i, task) in tasks.iter().enumerate() {
-        releases[i] = u64::from(task.offset);
-    }
-    releases
-}
-
-/// The instants by which job 0 of each task has to be finished.
-fn first_deadlines(tasks: &[Task]) -> [u64; MOST_TASKS]
+/// Job 0 of each task, at the front of a table.
+fn first_jobs(tasks: &[Task]) -> [NextJob; MOST_TASKS]
     requires few { length tasks.now ≤ 16 }
     requires keeping { all_of lawful tasks.now ≡ true }
     ensures size { length result ≡ 16 }
-    ensures value { (i : ℕ) → i < length tasks.now → slice_index result i ≡ (slice_index_or tasks.now i zero_task).offset + (slice_index_or tasks.now i zero_task).deadline }
-    ensures near { (i : ℕ) → slice_index result i ≤ 2097152 }
+    ensures numbers { map (λ (j : NextJob). j.number) result ≡ replicate 16 0 }
+    ensures value { (i : ℕ) → i < length tasks.now → slice_index_or result i no_job ≡ next_job (slice_index_or tasks.now i zero_task) 0 }
+    ensures near { (i : ℕ) → (slice_index_or result i no_job).deadline ≤ 2097152 }
 {
-    let mut deadlines = [0; MOST_TASKS];
+    let mut jobs = [NextJob::default(); MOST_TASKS];
     for (i, task) in tasks.iter().enumerate() {
-        deadlines[i] = u64::from(task.offset) + u64::from(task.deadline);
+        jobs[i] = NextJob::first(task);
     }
-    deadlines
+    jobs
 }

@@ -4,6 +4,7 @@ ghost use Rattle.std.specs.Prelude.{◌≡◌, ◌+◌, ◌<◌, true, length, g
 ghost use Rattle.delay.specs.Figures.{zero_task};
 ghost use Rattle.plan.specs.Plans.{tasks_in};
 ghost use Rattle.schedule.specs.Jobs.{due};
+ghost use Rattle.schedule.specs.Tables.{next_at, next_in, task_in};
 
 use super::Calendar;
 
@@ -12,7 +13,7 @@ impl Calendar {
     pub(crate) fn step(&mut self)
         requires { self.old.clock < 1000000000000 }
         ensures clock { self.new.clock ≡ self.old.clock + 1 }
-        ensures next { self.new.next ≡ self.old.next }
+        ensures next { next_in self.new ≡ next_in self.old }
         ensures plan { self.new.plan ≡ self.old.plan }
     {
         self.clock += 1;
@@ -21,16 +22,17 @@ impl Calendar {
     /// The next job of a task is released now, so that the one after it comes next. The answer is the work of the released job.
     pub(crate) fn count_release(&mut self, task: usize) -> u32
         requires place { task < length (tasks_in self.old.plan) }
-        requires released { due self.old.clock (slice_index_or (tasks_in self.old.plan) task zero_task) (slice_index self.old.next task) ≡ true }
-        ensures work { result ≡ (get_or (tasks_in self.old.plan) task zero_task).work }
-        ensures next { self.new.next ≡ slice_set self.old.next task (slice_index self.old.next task + 1) }
+        requires released { due self.old.clock (task_in self.old task) (next_at self.old task) ≡ true }
+        ensures work { result ≡ (task_in self.old task).work }
+        ensures next { next_in self.new ≡ slice_set (next_in self.old) task (next_at self.old task + 1) }
         ensures clock { self.new.clock ≡ self.old.clock }
         ensures plan { self.new.plan ≡ self.old.plan }
     {
         let released = self.tasks()[task];
-        self.next[task] += 1;
-        self.releases[task] += u64::from(released.period);
-        self.deadlines[task] = self.clock + u64::from(released.deadline);
+        let job = &mut self.jobs[task];
+        job.number += 1;
+        job.release += u64::from(released.period);
+        job.deadline = self.clock + u64::from(released.deadline);
         released.work
     }
 }

@@ -4,7 +4,7 @@ ghost use Rattle.std.specs.Prelude.{◌≡◌, ◌+◌, ◌<◌, length, if◌th
 ghost use Rattle.delay.specs.Figures.{zero_task};
 ghost use Rattle.plan.specs.Plans.{tasks_in};
 ghost use Rattle.schedule.specs.Jobs.{live_job, release};
-ghost use Rattle.schedule.specs.Tables.{row_of_switch};
+ghost use Rattle.schedule.specs.Tables.{next_at, row_of_switch, task_in};
 
 use super::Calendar;
 use crate::rows::{JobRow, SwitchRow};
@@ -13,7 +13,7 @@ impl Calendar {
     /// What is written down of a switch with this delay, if there was one.
     pub(crate) fn switch_row(&self, task: usize, delay: Option<u16>) -> Option<SwitchRow>
         requires { task < 16 }
-        ensures { result ≡ row_of_switch self.now.clock task (live_job (slice_index self.now.next task)) delay }
+        ensures { result ≡ row_of_switch self.now.clock task (live_job (next_at self.now task)) delay }
     {
         match delay {
             Some(delay) => Some(SwitchRow {
@@ -29,7 +29,7 @@ impl Calendar {
     /// What is written down of the task's job, if it has finished with this tick.
     pub(crate) fn job_row(&self, task: usize, finished: bool, delay: u64) -> Option<JobRow>
         requires { task < length (tasks_in self.now.plan) }
-        ensures { result ≡ (if finished then Some (record { task = task; job = live_job (slice_index self.now.next task); release = release (slice_index_or (tasks_in self.now.plan) task zero_task) (live_job (slice_index self.now.next task)); finish = self.now.clock + 1; delay = delay }) else None) }
+        ensures { result ≡ (if finished then Some (record { task = task; job = live_job (next_at self.now task); release = release (task_in self.now task) (live_job (next_at self.now task)); finish = self.now.clock + 1; delay = delay }) else None) }
     {
         if !finished {
             return None;

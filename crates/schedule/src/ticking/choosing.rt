@@ -4,7 +4,7 @@ ghost use Rattle.std.specs.Prelude.{◌≡◌, ◌<◌, true, [], length, take, 
 ghost use Rattle.delay.specs.Figures.{zero_task};
 ghost use Rattle.plan.specs.Plans.{tasks_in};
 ghost use Rattle.schedule.specs.Jobs.{shown, vacant};
-ghost use Rattle.schedule.specs.Tables.{is_below, moment_of, timed};
+ghost use Rattle.schedule.specs.Tables.{is_below, moment_of, next_at, task_in, timed};
 ghost use Rattle.schedule.specs.Ticks.{candidates};
 
 use super::Schedule;
@@ -24,7 +24,7 @@ impl Schedule {
     /// One task, as a policy sees it.
     fn candidate(&self, task: usize) -> Candidate
         requires { task < length (tasks_in self.now.calendar.plan) }
-        ensures { result ≡ shown self.now.calendar.clock (slice_index_or (tasks_in self.now.calendar.plan) task zero_task) (slice_index self.now.calendar.next task) (slice_index_or self.now.jobs.slots task vacant) }
+        ensures { result ≡ shown self.now.calendar.clock (task_in self.now.calendar task) (next_at self.now.calendar task) (slice_index_or self.now.jobs.slots task vacant) }
     {
         let slot = self.jobs.slot(task);
         let until = if slot.live {

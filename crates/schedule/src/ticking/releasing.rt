@@ -4,7 +4,7 @@ ghost use Rattle.std.specs.Prelude.{◌≡◌, ◌<◌, [], length, if◌then◌
 ghost use Rattle.delay.specs.Figures.{zero_task};
 ghost use Rattle.plan.specs.Plans.{tasks_in};
 ghost use Rattle.schedule.specs.Jobs.{counted, due, entered, vacant};
-ghost use Rattle.schedule.specs.Tables.{moment_of, timed};
+ghost use Rattle.schedule.specs.Tables.{moment_of, next_at, next_in, task_in, timed};
 ghost use Rattle.schedule.specs.Ticks.{released};
 
 use super::Schedule;
@@ -16,9 +16,9 @@ impl Schedule {
         ensures plan { self.new.calendar.plan ≡ self.old.calendar.plan }
         ensures clock { self.new.calendar.clock ≡ self.old.calendar.clock }
         ensures running { self.new.jobs.running ≡ self.old.jobs.running }
-        ensures slots { self.new.jobs.slots ≡ slice_set self.old.jobs.slots task (entered self.old.calendar.clock (slice_index_or (tasks_in self.old.calendar.plan) task zero_task) (slice_index self.old.calendar.next task) (slice_index_or self.old.jobs.slots task vacant)) }
-        ensures next { self.new.calendar.next ≡ slice_set self.old.calendar.next task (counted self.old.calendar.clock (slice_index_or (tasks_in self.old.calendar.plan) task zero_task) (slice_index self.old.calendar.next task)) }
-        ensures delays { self.new.jobs.delays ≡ slice_set self.old.jobs.delays task (if due self.old.calendar.clock (slice_index_or (tasks_in self.old.calendar.plan) task zero_task) (slice_index self.old.calendar.next task) then 0 else slice_index self.old.jobs.delays task) }
+        ensures slots { self.new.jobs.slots ≡ slice_set self.old.jobs.slots task (entered self.old.calendar.clock (task_in self.old.calendar task) (next_at self.old.calendar task) (slice_index_or self.old.jobs.slots task vacant)) }
+        ensures next { next_in self.new.calendar ≡ slice_set (next_in self.old.calendar) task (counted self.old.calendar.clock (task_in self.old.calendar task) (next_at self.old.calendar task)) }
+        ensures delays { self.new.jobs.delays ≡ slice_set self.old.jobs.delays task (if due self.old.calendar.clock (task_in self.old.calendar task) (next_at self.old.calendar task) then 0 else slice_index self.old.jobs.delays task) }
     {
         if self.calendar.is_due(task) {
             let work = self.calendar.count_release(task);

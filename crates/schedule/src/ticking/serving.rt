@@ -4,7 +4,7 @@ ghost use Rattle.std.specs.Prelude.{◌≡◌, ◌+◌, ◌^◌, ◌<◌, true, 
 ghost use Rattle.plan.specs.Plans.{tasks_in};
 ghost use Rattle.schedule.specs.Jobs.{vacant};
 ghost use Rattle.schedule.specs.Rows.{finishes, job_row_of, switch_row_of};
-ghost use Rattle.schedule.specs.Tables.{is_below, moment_of, state_of, unruled};
+ghost use Rattle.schedule.specs.Tables.{is_below, moment_of, next_in, state_of, unruled};
 ghost use Rattle.schedule.specs.Ticks.{charged, delay_to, runs, served};
 
 use super::Schedule;
@@ -21,7 +21,7 @@ impl Schedule {
         ensures clock { self.new.calendar.clock ≡ self.old.calendar.clock + 1 }
         ensures slots { self.new.jobs.slots ≡ self.old.jobs.slots }
         ensures running { self.new.jobs.running ≡ None }
-        ensures next { self.new.calendar.next ≡ self.old.calendar.next }
+        ensures next { next_in self.new.calendar ≡ next_in self.old.calendar }
         ensures delays { self.new.jobs.delays ≡ self.old.jobs.delays }
     {
         self.jobs.idle();
@@ -35,7 +35,7 @@ impl Schedule {
         ensures same { M.DelayModel.profile model.new ≡ M.DelayModel.profile model.old }
         ensures plan { self.new.calendar.plan ≡ self.old.calendar.plan }
         ensures clock { self.new.calendar.clock ≡ self.old.calendar.clock + 1 }
-        ensures next { self.new.calendar.next ≡ self.old.calendar.next }
+        ensures next { next_in self.new.calendar ≡ next_in self.old.calendar }
         ensures state { (moment_of self.new (M.DelayModel.marks model.new)).state ≡ served (unruled (tasks_in self.old.calendar.plan) (M.DelayModel.profile model.old)) (Some task) (moment_of self.old (M.DelayModel.marks model.old)).state }
         ensures delays { self.new.jobs.delays ≡ charged (unruled (tasks_in self.old.calendar.plan) (M.DelayModel.profile model.old)) (Some task) (moment_of self.old (M.DelayModel.marks model.old)) }
         ensures switch { result.switch ≡ switch_row_of (unruled (tasks_in self.old.calendar.plan) (M.DelayModel.profile model.old)) self.old.calendar.clock (moment_of self.old (M.DelayModel.marks model.old)) (Some task) }
@@ -56,7 +56,7 @@ impl Schedule {
         ensures same { M.DelayModel.profile model.new ≡ M.DelayModel.profile model.old }
         ensures plan { self.new.calendar.plan ≡ self.old.calendar.plan }
         ensures clock { self.new.calendar.clock ≡ self.old.calendar.clock + 1 }
-        ensures next { self.new.calendar.next ≡ self.old.calendar.next }
+        ensures next { next_in self.new.calendar ≡ next_in self.old.calendar }
         ensures state { (moment_of self.new (M.DelayModel.marks model.new)).state ≡ served (unruled (tasks_in self.old.calendar.plan) (M.DelayModel.profile model.old)) choice (moment_of self.old (M.DelayModel.marks model.old)).state }
         ensures delays { self.new.jobs.delays ≡ charged (unruled (tasks_in self.old.calendar.plan) (M.DelayModel.profile model.old)) choice (moment_of self.old (M.DelayModel.marks model.old)) }
         ensures switch { result.switch ≡ switch_row_of (unruled (tasks_in self.old.calendar.plan) (M.DelayModel.profile model.old)) self.old.calendar.clock (moment_of self.old (M.DelayModel.marks model.old)) choice }

@@ -1,0 +1,30 @@
+//! The next job of a task.
+
+ghost use Rattle.std.specs.Prelude.{◌≡◌};
+ghost use Rattle.schedule.specs.Calendars.{next_job};
+
+use plan::Task;
+
+/// Which job of a task is released next, and when. Instants are kept so that a tick need not multiply.
+#[derive(Clone, Copy, Default)]
+pub(crate) struct NextJob {
+    pub(super) number: u64,
+    /// the instant of its release
+    pub(super) release: u64,
+    /// the deadline of the job before it, and its own where it is job 0
+    pub(super) deadline: u64,
+}
+
+impl NextJob {
+    /// Job 0 of a task.
+    pub(super) fn first(task: &Task) -> Self
+        ensures { result ≡ next_job task.now 0 }
+    {
+        let release = u64::from(task.offset);
+        NextJob {
+            number: 0,
+            release,
+            deadline: release + u64::from(task.deadline),
+        }
+    }
+}
