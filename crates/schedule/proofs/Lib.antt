@@ -1,6 +1,7 @@
 pub mod Eaches
 pub mod Losses
 pub mod Delays
+pub mod LiveJobs
 pub mod Places
 pub mod Calendars
 pub mod Owing

@@ -4,6 +4,10 @@
 --     next_in k              the numbers of the next jobs in a calendar
 --     next_at k i            that of task i
 --     task_in k i            task i of a calendar's plan
+--     slots_in b             the slots in a table of jobs
+--     delays_in b            the delays of its live jobs
+--     slot_at b i            the slot of task i
+--     delay_at b i           the delay of its live job
 --     state_of b ms          the state of a table of jobs and the marks of a model
 --     moment_of b ms         the moment of a schedule and the marks of a model
 --     is_below n o           o is none, or a number below n
@@ -16,14 +20,17 @@ use Rattle.delay.specs.Profiles.{Profile}
 use Rattle.delay.specs.declared.mark.Mark.{Mark}
 use Rattle.plan.specs.Plans.{tasks_in}
 use Rattle.plan.specs.declared.tasks.Task.{Task}
+use Rattle.schedule.specs.Jobs.{vacant}
 use Rattle.schedule.specs.Rows.{job_row, switch_row}
 use Rattle.schedule.specs.States.{Moment, Setting, State}
 use Rattle.schedule.specs.Ticks.{tick}
 use Rattle.schedule.specs.declared.calendar.Calendar.{Calendar}
 use Rattle.schedule.specs.declared.calendar.next_job.NextJob.{NextJob}
 use Rattle.schedule.specs.declared.jobs.JobTable.{JobTable}
+use Rattle.schedule.specs.declared.jobs.LiveJob.{LiveJob}
 use Rattle.schedule.specs.declared.rows.SwitchRow.{SwitchRow}
 use Rattle.schedule.specs.declared.rows.TickRows.{TickRows}
+use Rattle.schedule.specs.declared.slots.Slot.{Slot}
 use Rattle.schedule.specs.declared.ticking.Schedule.{Schedule}
 
 -- From the switch on, a tick looks at nothing else: any rule and any hyperperiod would do.
@@ -46,13 +53,29 @@ next_at k i = slice_index (next_in k) i
 abbrev pub task_in : Calendar → ℕ → Task
 task_in k i = slice_index_or (tasks_in k.plan) i zero_task
 
+-- Of all 16 places, by task number.
+abbrev pub slots_in : JobTable → List Slot
+slots_in b = map (λ (j : LiveJob). j.slot) b.jobs
+
+-- The delays answered so far, in the same way.
+abbrev pub delays_in : JobTable → List ℕ
+delays_in b = map (λ (j : LiveJob). j.delay) b.jobs
+
+-- One of these slots.
+abbrev pub slot_at : JobTable → ℕ → Slot
+slot_at b i = slice_index_or (slots_in b) i vacant
+
+-- One of these delays.
+abbrev pub delay_at : JobTable → ℕ → ℕ
+delay_at b i = slice_index (delays_in b) i
+
 -- The marks are the model's own.
 abbrev pub state_of : JobTable → List Mark → State
-state_of b ms = record { slots = b.slots; marks = ms; running = b.running }
+state_of b ms = record { slots = slots_in b; marks = ms; running = b.running }
 
 -- The instant is the schedule's clock.
 abbrev pub moment_of : Schedule → List Mark → Moment
-moment_of b ms = record { state = state_of b.jobs ms; next = next_in b.calendar; delays = b.jobs.delays }
+moment_of b ms = record { state = state_of b.jobs ms; next = next_in b.calendar; delays = delays_in b.jobs }
 
 -- A policy names only a task of the plan.
 abbrev pub is_below : ℕ → Option ℕ → Bool

@@ -3,6 +3,7 @@
 ghost use Rattle.std.specs.Prelude.{◌≡◌, length};
 
 mod opening;
+mod reading;
 mod serving;
 mod switching;
 
@@ -10,12 +11,17 @@ use crate::slots::Slot;
 use plan::MOST_TASKS;
 pub(crate) use serving::Served;
 
-/// The slot of each task, the running task, and the delay answered so far to each live job.
+/// What is known of a task's live job, and the delay answered to it so far. The default is that no job is live.
+#[derive(Clone, Copy, Default)]
+pub(crate) struct LiveJob {
+    pub(crate) slot: Slot,
+    pub(crate) delay: u64,
+}
+
+/// The live job of each task, and the running task.
 #[derive(Clone, Copy)]
 pub(crate) struct JobTable {
-    slots: [Slot; MOST_TASKS],
+    jobs: [LiveJob; MOST_TASKS],
     running: Option<usize>,
-    delays: [u64; MOST_TASKS],
-    ghost sized: { length slots ≡ 16 },
-    ghost measured: { length delays ≡ 16 },
+    ghost sized: { length jobs ≡ 16 },
 }

@@ -9,7 +9,7 @@ ghost use Rattle.std.proofs.Common.{rules};
 ghost use Rattle.std.specs.Cmp as Keys;
 
 /// What is known of a task's live job. Where no job is live, all is zero.
-#[derive(Clone, Copy)]
+#[derive(Clone, Copy, Default)]
 pub struct Slot {
     /// a job of the task is live
     pub live: bool,
@@ -20,14 +20,6 @@ pub struct Slot {
     /// it has had the core before
     pub begun: bool,
 }
-
-/// The slot of a task without a live job.
-pub(crate) const VACANT: Slot = Slot {
-    live: false,
-    left: 0,
-    owed: 0,
-    begun: false,
-};
 
 impl PartialEq for Slot {
     ghost eq = { eq_of_both (on (λ v. v.live) beq) (eq_of_both (on (λ v. v.left) nat_eq) (eq_of_both (on (λ v. v.owed) nat_eq) (on (λ v. v.begun) beq))) };

@@ -1,7 +1,8 @@
 //! The schedule of a plan, from one tick to the next.
 
-ghost use Rattle.std.specs.Prelude.{ℕ, ◌*◌, ◌≤◌, slice_index, slice_index_or};
+ghost use Rattle.std.specs.Prelude.{ℕ, ◌*◌, ◌≤◌, map, slice_index, slice_index_or};
 ghost use Rattle.schedule.specs.Jobs.{vacant};
+ghost use Rattle.schedule.specs.declared.jobs.LiveJob.{LiveJob};
 
 mod choosing;
 mod opening;
@@ -21,6 +22,6 @@ pub const LAST_INSTANT: u64 = 1_000_000_000_000;
 pub struct Schedule {
     calendar: Calendar,
     jobs: JobTable,
-    ghost owing: { (i : ℕ) → (slice_index_or jobs.slots i vacant).owed ≤ 4096 * calendar.clock },
-    ghost charging: { (i : ℕ) → slice_index jobs.delays i ≤ 4096 * calendar.clock },
+    ghost owing: { (i : ℕ) → (slice_index_or (map (λ (j : LiveJob). j.slot) jobs.jobs) i vacant).owed ≤ 4096 * calendar.clock },
+    ghost charging: { (i : ℕ) → slice_index (map (λ (j : LiveJob). j.delay) jobs.jobs) i ≤ 4096 * calendar.clock },
 }

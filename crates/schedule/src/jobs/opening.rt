@@ -1,62 +1,49 @@
 //! A table before the first tick, and what is released into it.
 
-ghost use Rattle.std.specs.Prelude.{◌≡◌, ◌<◌, true, false, replicate, None, slice_index, slice_index_or, slice_set};
+ghost use Rattle.std.specs.Prelude.{◌≡◌, ◌<◌, true, false, replicate, None, slice_set};
 ghost use Rattle.schedule.specs.Jobs.{vacant};
+ghost use Rattle.schedule.specs.Tables.{delays_in, slots_in};
 
-use super::JobTable;
-use crate::slots::{Slot, VACANT};
+use super::{JobTable, LiveJob};
+use crate::slots::Slot;
 use plan::MOST_TASKS;
 
 impl JobTable {
     /// No job is live, and no task is running.
     pub(crate) fn new() -> Self
-        ensures slots { result.slots ≡ replicate 16 vacant }
+        ensures slots { slots_in result ≡ replicate 16 vacant }
         ensures running { result.running ≡ None }
-        ensures delays { result.delays ≡ replicate 16 0 }
+        ensures delays { delays_in result ≡ replicate 16 0 }
     {
         JobTable {
-            slots: [VACANT; MOST_TASKS],
+            jobs: [LiveJob::default(); MOST_TASKS],
             running: None,
-            delays: [0; MOST_TASKS],
+        }
+    }
+
+    /// Puts this in the place of a task's live job. A number that no task has is passed over.
+    pub(super) fn put(&mut self, task: usize, job: LiveJob)
+        ensures slots { slots_in self.new ≡ slice_set (slots_in self.old) task job.slot }
+        ensures delays { delays_in self.new ≡ slice_set (delays_in self.old) task job.delay }
+        ensures running { self.new.running ≡ self.old.running }
+    {
+        if task < MOST_TASKS {
+            self.jobs[task] = job;
         }
     }
 
     /// A job with this work takes the slot of its task.
     pub(crate) fn enter(&mut self, task: usize, work: u32)
-        requires { task < 16 }
-        ensures slots { self.new.slots ≡ slice_set self.old.slots task (record { live = true; left = work; owed = 0; begun = false }) }
+        ensures slots { slots_in self.new ≡ slice_set (slots_in self.old) task (record { live = true; left = work; owed = 0; begun = false }) }
+        ensures delays { delays_in self.new ≡ slice_set (delays_in self.old) task 0 }
         ensures running { self.new.running ≡ self.old.running }
-        ensures delays { self.new.delays ≡ slice_set self.old.delays task 0 }
     {
-        self.slots[task] = Slot {
+        let slot = Slot {
             live: true,
             left: work,
             owed: 0,
             begun: false,
         };
-        self.delays[task] = 0;
-    }
-
-    /// What is known of a task's live job.
-    pub(crate) fn slot(&self, task: usize) -> Slot
-        requires { task < 16 }
-        ensures { result ≡ slice_index_or self.now.slots task vacant }
-    {
-        self.slots[task]
-    }
-
-    /// The running task.
-    pub(crate) fn running(&self) -> Option<usize>
-        ensures { result ≡ self.now.running }
-    {
-        self.running
-    }
-
-    /// The delay answered so far to a task's live job.
-    pub(crate) fn delay(&self, task: usize) -> u64
-        requires { task < 16 }
-        ensures { result ≡ slice_index self.now.delays task }
-    {
-        self.delays[task]
+        self.put(task, LiveJob { slot, delay: 0 });
     }
 }

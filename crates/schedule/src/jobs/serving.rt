@@ -1,13 +1,12 @@
 //! Steps 4 and 5 of a tick: the task that has the core spends it.
 
-ghost use Rattle.std.specs.Prelude.{◌≡◌, ◌+◌, ◌^◌, ◌<◌, ◌≤◌, [], length, if◌then◌else◌, Some, None, ◌==◌, slice_index, slice_index_or, slice_set};
-ghost use Rattle.schedule.specs.Jobs.{vacant};
+ghost use Rattle.std.specs.Prelude.{◌≡◌, ◌+◌, ◌^◌, ◌<◌, [], if◌then◌else◌, Some, None, ◌==◌, slice_set};
 ghost use Rattle.schedule.specs.Rows.{finishes};
-ghost use Rattle.schedule.specs.Tables.{state_of, unruled};
+ghost use Rattle.schedule.specs.Tables.{delay_at, delays_in, slot_at, slots_in, state_of, unruled};
 ghost use Rattle.schedule.specs.Ticks.{delay_to, runs, served, settled, spent};
 
-use super::JobTable;
-use crate::slots::VACANT;
+use super::{JobTable, LiveJob};
+use crate::slots::Slot;
 use delay::DelayModel;
 use plan::Task;
 
@@ -26,11 +25,11 @@ impl JobTable {
         requires { task < 16 }
         ensures same { M.DelayModel.profile model.new ≡ M.DelayModel.profile model.old }
         ensures state { state_of self.new (M.DelayModel.marks model.new) ≡ spent (unruled [] (M.DelayModel.profile model.old)) task (state_of self.old (M.DelayModel.marks model.old)) }
-        ensures delays { self.new.delays ≡ self.old.delays }
+        ensures delays { delays_in self.new ≡ delays_in self.old }
     {
         model.spend(task);
-        let slot = &mut self.slots[task];
-        slot.work();
+        let job = &mut self.jobs[task];
+        job.slot.work();
     }
 
     /// Ends the tick: where no work is left the job finishes, otherwise its task is the running one.
@@ -38,12 +37,14 @@ impl JobTable {
         requires { task < 16 }
         ensures same { M.DelayModel.profile model.new ≡ M.DelayModel.profile model.old }
         ensures state { state_of self.new (M.DelayModel.marks model.new) ≡ settled task (state_of self.old (M.DelayModel.marks model.old)) }
-        ensures delays { self.new.delays ≡ self.old.delays }
-        ensures finished { result ≡ ((slice_index_or self.old.slots task vacant).left == 0) }
+        ensures delays { delays_in self.new ≡ delays_in self.old }
+        ensures finished { result ≡ ((slot_at self.old task).left == 0) }
     {
-        let finished = self.slots[task].left == 0;
+        let job = self.job(task);
+        let finished = job.slot.left == 0;
         if finished {
-            self.slots[task] = VACANT;
+            let slot = Slot::default();
+            self.put(task, LiveJob { slot, ..job });
             model.finish(task);
             self.running = None;
         } else {
@@ -54,9 +55,9 @@ impl JobTable {
 
     /// A tick without a task on the core.
     pub(crate) fn idle(&mut self)
-        ensures slots { self.new.slots ≡ self.old.slots }
+        ensures slots { slots_in self.new ≡ slots_in self.old }
         ensures running { self.new.running ≡ None }
-        ensures delays { self.new.delays ≡ self.old.delays }
+        ensures delays { delays_in self.new ≡ delays_in self.old }
     {
         self.running = None;
     }
@@ -68,11 +69,12 @@ impl JobTable {
         tasks: &[Task],
         task: usize,
     ) -> Served
-        requires places { (task < 16) × (length tasks.now ≤ 16) }
-        requires small { ((slice_index_or self.old.slots task vacant).owed < 2 ^ 63) × (slice_index self.old.delays task < 2 ^ 63) }
+        requires place { task < 16 }
+        requires owing { (slot_at self.old task).owed < 2 ^ 63 }
+        requires charging { delay_at self.old task < 2 ^ 63 }
         ensures same { M.DelayModel.profile model.new ≡ M.DelayModel.profile model.old }
         ensures state { state_of self.new (M.DelayModel.marks model.new) ≡ served (unruled tasks.now (M.DelayModel.profile model.old)) (Some task) (state_of self.old (M.DelayModel.marks model.old)) }
-        ensures delays { self.new.delays ≡ slice_set self.old.delays task (slice_index self.old.delays task + delay_to (unruled tasks.now (M.DelayModel.profile model.old)) task (state_of self.old (M.DelayModel.marks model.old))) }
+        ensures delays { delays_in self.new ≡ slice_set (delays_in self.old) task (delay_at self.old task + delay_to (unruled tasks.now (M.DelayModel.profile model.old)) task (state_of self.old (M.DelayModel.marks model.old))) }
         ensures switch { result.switch ≡ (if runs self.old.running task then None else Some (delay_to (unruled tasks.now (M.DelayModel.profile model.old)) task (state_of self.old (M.DelayModel.marks model.old)))) }
         ensures finished { result.finished ≡ finishes (unruled tasks.now (M.DelayModel.profile model.old)) task (state_of self.old (M.DelayModel.marks model.old)) }
     {

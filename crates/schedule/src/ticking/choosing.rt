@@ -4,7 +4,7 @@ ghost use Rattle.std.specs.Prelude.{◌≡◌, ◌<◌, true, [], length, take, 
 ghost use Rattle.delay.specs.Figures.{zero_task};
 ghost use Rattle.plan.specs.Plans.{tasks_in};
 ghost use Rattle.schedule.specs.Jobs.{shown, vacant};
-ghost use Rattle.schedule.specs.Tables.{is_below, moment_of, next_at, task_in, timed};
+ghost use Rattle.schedule.specs.Tables.{is_below, moment_of, next_at, slot_at, task_in, timed};
 ghost use Rattle.schedule.specs.Ticks.{candidates};
 
 use super::Schedule;
@@ -24,9 +24,9 @@ impl Schedule {
     /// One task, as a policy sees it.
     fn candidate(&self, task: usize) -> Candidate
         requires { task < length (tasks_in self.now.calendar.plan) }
-        ensures { result ≡ shown self.now.calendar.clock (task_in self.now.calendar task) (next_at self.now.calendar task) (slice_index_or self.now.jobs.slots task vacant) }
+        ensures { result ≡ shown self.now.calendar.clock (task_in self.now.calendar task) (next_at self.now.calendar task) (slot_at self.now.jobs task) }
     {
-        let slot = self.jobs.slot(task);
+        let slot = self.jobs.job(task).slot;
         let until = if slot.live {
             self.calendar.until(task)
         } else {

@@ -5,8 +5,7 @@ ghost use Rattle.schedule.specs.States.{slot_of};
 ghost use Rattle.schedule.specs.Tables.{moment_of};
 
 use super::Schedule;
-use crate::slots::{Slot, VACANT};
-use plan::MOST_TASKS;
+use crate::slots::Slot;
 
 impl Schedule {
     /// The instant that has been reached.
@@ -20,11 +19,7 @@ impl Schedule {
     pub fn slot(&self, task: usize) -> Slot
         ensures { result ≡ slot_of (moment_of self.now []).state task }
     {
-        if task < MOST_TASKS {
-            self.jobs.slot(task)
-        } else {
-            VACANT
-        }
+        self.jobs.job(task).slot
     }
 
     /// The running task, if there is one.

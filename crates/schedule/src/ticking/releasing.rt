@@ -4,7 +4,7 @@ ghost use Rattle.std.specs.Prelude.{◌≡◌, ◌<◌, [], length, if◌then◌
 ghost use Rattle.delay.specs.Figures.{zero_task};
 ghost use Rattle.plan.specs.Plans.{tasks_in};
 ghost use Rattle.schedule.specs.Jobs.{counted, due, entered, vacant};
-ghost use Rattle.schedule.specs.Tables.{moment_of, next_at, next_in, task_in, timed};
+ghost use Rattle.schedule.specs.Tables.{delay_at, delays_in, moment_of, next_at, next_in, slot_at, slots_in, task_in, timed};
 ghost use Rattle.schedule.specs.Ticks.{released};
 
 use super::Schedule;
@@ -16,9 +16,9 @@ impl Schedule {
         ensures plan { self.new.calendar.plan ≡ self.old.calendar.plan }
         ensures clock { self.new.calendar.clock ≡ self.old.calendar.clock }
         ensures running { self.new.jobs.running ≡ self.old.jobs.running }
-        ensures slots { self.new.jobs.slots ≡ slice_set self.old.jobs.slots task (entered self.old.calendar.clock (task_in self.old.calendar task) (next_at self.old.calendar task) (slice_index_or self.old.jobs.slots task vacant)) }
+        ensures slots { slots_in self.new.jobs ≡ slice_set (slots_in self.old.jobs) task (entered self.old.calendar.clock (task_in self.old.calendar task) (next_at self.old.calendar task) (slot_at self.old.jobs task)) }
         ensures next { next_in self.new.calendar ≡ slice_set (next_in self.old.calendar) task (counted self.old.calendar.clock (task_in self.old.calendar task) (next_at self.old.calendar task)) }
-        ensures delays { self.new.jobs.delays ≡ slice_set self.old.jobs.delays task (if due self.old.calendar.clock (task_in self.old.calendar task) (next_at self.old.calendar task) then 0 else slice_index self.old.jobs.delays task) }
+        ensures delays { delays_in self.new.jobs ≡ slice_set (delays_in self.old.jobs) task (if due self.old.calendar.clock (task_in self.old.calendar task) (next_at self.old.calendar task) then 0 else delay_at self.old.jobs task) }
     {
         if self.calendar.is_due(task) {
             let work = self.calendar.count_release(task);

@@ -4,7 +4,7 @@ ghost use Rattle.std.specs.Prelude.{◌≡◌, ◌+◌, ◌^◌, ◌<◌, true, 
 ghost use Rattle.plan.specs.Plans.{tasks_in};
 ghost use Rattle.schedule.specs.Jobs.{vacant};
 ghost use Rattle.schedule.specs.Rows.{finishes, job_row_of, switch_row_of};
-ghost use Rattle.schedule.specs.Tables.{is_below, moment_of, next_in, state_of, unruled};
+ghost use Rattle.schedule.specs.Tables.{delay_at, delays_in, is_below, moment_of, next_in, slot_at, slots_in, state_of, unruled};
 ghost use Rattle.schedule.specs.Ticks.{charged, delay_to, runs, served};
 
 use super::Schedule;
@@ -19,10 +19,10 @@ impl Schedule {
         requires { self.old.calendar.clock < 1000000000000 }
         ensures plan { self.new.calendar.plan ≡ self.old.calendar.plan }
         ensures clock { self.new.calendar.clock ≡ self.old.calendar.clock + 1 }
-        ensures slots { self.new.jobs.slots ≡ self.old.jobs.slots }
+        ensures slots { slots_in self.new.jobs ≡ slots_in self.old.jobs }
         ensures running { self.new.jobs.running ≡ None }
         ensures next { next_in self.new.calendar ≡ next_in self.old.calendar }
-        ensures delays { self.new.jobs.delays ≡ self.old.jobs.delays }
+        ensures delays { delays_in self.new.jobs ≡ delays_in self.old.jobs }
     {
         self.jobs.idle();
         self.calendar.step();
@@ -37,13 +37,13 @@ impl Schedule {
         ensures clock { self.new.calendar.clock ≡ self.old.calendar.clock + 1 }
         ensures next { next_in self.new.calendar ≡ next_in self.old.calendar }
         ensures state { (moment_of self.new (M.DelayModel.marks model.new)).state ≡ served (unruled (tasks_in self.old.calendar.plan) (M.DelayModel.profile model.old)) (Some task) (moment_of self.old (M.DelayModel.marks model.old)).state }
-        ensures delays { self.new.jobs.delays ≡ charged (unruled (tasks_in self.old.calendar.plan) (M.DelayModel.profile model.old)) (Some task) (moment_of self.old (M.DelayModel.marks model.old)) }
+        ensures delays { delays_in self.new.jobs ≡ charged (unruled (tasks_in self.old.calendar.plan) (M.DelayModel.profile model.old)) (Some task) (moment_of self.old (M.DelayModel.marks model.old)) }
         ensures switch { result.switch ≡ switch_row_of (unruled (tasks_in self.old.calendar.plan) (M.DelayModel.profile model.old)) self.old.calendar.clock (moment_of self.old (M.DelayModel.marks model.old)) (Some task) }
         ensures job { result.job ≡ job_row_of (unruled (tasks_in self.old.calendar.plan) (M.DelayModel.profile model.old)) self.old.calendar.clock (moment_of self.old (M.DelayModel.marks model.old)) (Some task) }
     {
         let served = serve_task(&mut self.jobs, &self.calendar, model, task);
         let switch = self.calendar.switch_row(task, served.switch);
-        let delay = self.jobs.delay(task);
+        let delay = self.jobs.job(task).delay;
         let job = self.calendar.job_row(task, served.finished, delay);
         self.calendar.step();
         TickRows { switch, job }
@@ -58,7 +58,7 @@ impl Schedule {
         ensures clock { self.new.calendar.clock ≡ self.old.calendar.clock + 1 }
         ensures next { next_in self.new.calendar ≡ next_in self.old.calendar }
         ensures state { (moment_of self.new (M.DelayModel.marks model.new)).state ≡ served (unruled (tasks_in self.old.calendar.plan) (M.DelayModel.profile model.old)) choice (moment_of self.old (M.DelayModel.marks model.old)).state }
-        ensures delays { self.new.jobs.delays ≡ charged (unruled (tasks_in self.old.calendar.plan) (M.DelayModel.profile model.old)) choice (moment_of self.old (M.DelayModel.marks model.old)) }
+        ensures delays { delays_in self.new.jobs ≡ charged (unruled (tasks_in self.old.calendar.plan) (M.DelayModel.profile model.old)) choice (moment_of self.old (M.DelayModel.marks model.old)) }
         ensures switch { result.switch ≡ switch_row_of (unruled (tasks_in self.old.calendar.plan) (M.DelayModel.profile model.old)) self.old.calendar.clock (moment_of self.old (M.DelayModel.marks model.old)) choice }
         ensures job { result.job ≡ job_row_of (unruled (tasks_in self.old.calendar.plan) (M.DelayModel.profile model.old)) self.old.calendar.clock (moment_of self.old (M.DelayModel.marks model.old)) choice }
     {
@@ -83,10 +83,10 @@ fn serve_task<M: DelayModel>(
     task: usize,
 ) -> Served
     requires places { task < 16 }
-    requires small { ((slice_index_or jobs.old.slots task vacant).owed < 2 ^ 63) × (slice_index jobs.old.delays task < 2 ^ 63) }
+    requires small { ((slot_at jobs.old task).owed < 2 ^ 63) × (delay_at jobs.old task < 2 ^ 63) }
     ensures same { M.DelayModel.profile model.new ≡ M.DelayModel.profile model.old }
     ensures state { state_of jobs.new (M.DelayModel.marks model.new) ≡ served (unruled (tasks_in calendar.now.plan) (M.DelayModel.profile model.old)) (Some task) (state_of jobs.old (M.DelayModel.marks model.old)) }
-    ensures delays { jobs.new.delays ≡ slice_set jobs.old.delays task (slice_index jobs.old.delays task + delay_to (unruled (tasks_in calendar.now.plan) (M.DelayModel.profile model.old)) task (state_of jobs.old (M.DelayModel.marks model.old))) }
+    ensures delays { delays_in jobs.new ≡ slice_set (delays_in jobs.old) task (delay_at jobs.old task + delay_to (unruled (tasks_in calendar.now.plan) (M.DelayModel.profile model.old)) task (state_of jobs.old (M.DelayModel.marks model.old))) }
     ensures switch { result.switch ≡ (if runs jobs.old.running task then None else Some (delay_to (unruled (tasks_in calendar.now.plan) (M.DelayModel.profile model.old)) task (state_of jobs.old (M.DelayModel.marks model.old)))) }
     ensures finished { result.finished ≡ finishes (unruled (tasks_in calendar.now.plan) (M.DelayModel.profile model.old)) task (state_of jobs.old (M.DelayModel.marks model.old)) }
 {

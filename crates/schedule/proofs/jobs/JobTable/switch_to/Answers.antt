@@ -4,6 +4,3 @@ use Rattle.schedule.proofs.jobs.JobTable.switch_to.Goals as goal
 
 pub returns-then-is_running : goal.returns-then-is_running
 returns-then-is_running g c = search (rules, no_delay_more)
-
-pub returns-else-self-task : goal.returns-else-self-task
-returns-else-self-task g c = search (rules, no_delay_more)

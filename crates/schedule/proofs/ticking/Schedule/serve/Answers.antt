@@ -3,7 +3,7 @@ use Rattle.plan.specs.Plans.{tasks_in}
 use Rattle.schedule.proofs.Owing.{charged_small, served_owing}
 use Rattle.schedule.proofs.ticking.Schedule.serve.Goals as goal
 use Rattle.schedule.specs.States.{State, slot_of}
-use Rattle.schedule.specs.Tables.{state_of, unruled}
+use Rattle.schedule.specs.Tables.{delays_in, state_of, unruled}
 
 pub invariant_of-self : goal.invariant_of-self
 invariant_of-self g c =
@@ -17,6 +17,6 @@ invariant_of-self g c =
           let owed = served_owing s small _ j x old.owing i in
           omega (arith, c.step.ensures.clock, ap (λ (z : State). (slot_of z i).owed) c.serve_task-served.ensures.state);
       charging = λ i.
-          let delays = charged_small s small _ j old.jobs.delays x old.charging i in
+          let delays = charged_small s small _ j (delays_in old.jobs) x old.charging i in
           omega (arith, c.step.ensures.clock, ap (λ l. get_or l i 0) c.serve_task-served.ensures.delays);
     }
