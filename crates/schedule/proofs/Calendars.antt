@@ -1,11 +1,12 @@
 -- The instants that the calendar keeps, as a job is counted.
-use Rattle.std.proofs.Common.{◌≡◌, ℕ, ◌+◌, ◌<◌, ◌≤◌, true, List, length, get_or, ap, ◌∙◌, arith, mul-le-mul_left}
+use Rattle.std.proofs.Common.{◌≡◌, ℕ, ◌+◌, ◌<◌, ◌≤◌, suc, true, List, [], ◌∷◌, map, replicate, length, get_or, refl, ap, ◌∙◌, arith, mul-le-mul_left}
 use Rattle.delay.specs.Figures.{zero_task}
 use Rattle.plan.proofs.TaskTimes.{times_at}
 use Rattle.plan.specs.Tasks.{all_of, lawful}
 use Rattle.plan.specs.declared.tasks.Task.{Task}
-use Rattle.schedule.specs.Calendars.{next_job}
+use Rattle.schedule.specs.Calendars.{next_job, no_job}
 use Rattle.schedule.specs.Jobs.{deadline_at, live_job, release}
+use Rattle.schedule.specs.declared.calendar.next_job.NextJob.{NextJob}
 
 -- where job n comes next and is released at t, job n + 1 comes next after it
 pub one_counted : (k : Task) (n r t p d : ℕ) → p ≡ k.period → d ≡ k.deadline → r ≡ release k n → t ≡ r → record { number = n + 1; release = r + p; deadline = t + d } ≡ next_job k (n + 1)
@@ -21,3 +22,8 @@ number_small ks j n t h l e =
     let k = times_at ks j zero_task h l in
     let one : 1 ≤ (get_or ks j zero_task).period = omega arith in
     omega (arith, mul-le-mul_left n one)
+
+-- where each number is 0
+pub numbers_zero : (js : List NextJob) → ((i : ℕ) → (get_or js i no_job).number ≡ 0) → map (λ (j : NextJob). j.number) js ≡ replicate (length js) 0
+numbers_zero [] h = refl
+numbers_zero (j ∷ js) h = λ k. h 0 k ∷ numbers_zero js (λ i. h (suc i)) k

@@ -1,6 +1,6 @@
 //! When the jobs of the tasks are released, and when they have to be finished.
 
-ghost use Rattle.std.specs.Prelude.{◌≡◌, ℕ, ◌+◌, ◌<◌, ◌≤◌, length, slice_index_or};
+ghost use Rattle.std.specs.Prelude.{◌≡◌, ℕ, ◌+◌, ◌≤◌, length, slice_index_or};
 ghost use Rattle.delay.specs.Figures.{zero_task};
 ghost use Rattle.plan.specs.Plans.{tasks_in};
 ghost use Rattle.schedule.specs.Calendars.{next_job, no_job};
@@ -22,6 +22,6 @@ pub(crate) struct Calendar {
     jobs: [NextJob; MOST_TASKS],
     ghost ending: { clock ≤ 1000000000000 },
     ghost sized: { length jobs ≡ 16 },
-    ghost kept: { (i : ℕ) → i < length (tasks_in plan) → slice_index_or jobs i no_job ≡ next_job (slice_index_or (tasks_in plan) i zero_task) (slice_index_or jobs i no_job).number },
+    ghost kept: { (i : ℕ) → slice_index_or jobs i no_job ≡ next_job (slice_index_or (tasks_in plan) i zero_task) (slice_index_or jobs i no_job).number },
     ghost near: { (i : ℕ) → (slice_index_or jobs i no_job).deadline ≤ clock + 2097152 },
 }

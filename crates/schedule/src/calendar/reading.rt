@@ -1,12 +1,12 @@
-//! What the calendar says of a task.
+//! What the calendar says of a task. A number that no task has is read as the task of zeros.
 
-ghost use Rattle.std.specs.Prelude.{◌≡◌, ◌-◌, ◌<◌, ◌≤◌, length, slice_index, slice_index_or};
-ghost use Rattle.delay.specs.Figures.{zero_task};
+ghost use Rattle.std.specs.Prelude.{◌≡◌, ◌-◌, ◌≤◌, length};
 ghost use Rattle.plan.specs.Plans.{tasks_in};
+ghost use Rattle.schedule.specs.Calendars.{next_job};
 ghost use Rattle.schedule.specs.Jobs.{deadline_at, due, live_job, release};
 ghost use Rattle.schedule.specs.Tables.{next_at, task_in};
 
-use super::Calendar;
+use super::{Calendar, NextJob};
 use plan::Task;
 
 impl Calendar {
@@ -26,36 +26,45 @@ impl Calendar {
         self.plan.tasks()
     }
 
+    /// The task of a number.
+    pub(super) fn task(&self, task: usize) -> Task
+        ensures { result ≡ task_in self.now task }
+    {
+        self.tasks().get(task).copied().unwrap_or_default()
+    }
+
+    /// The next job of a task.
+    fn next(&self, task: usize) -> NextJob
+        ensures { result ≡ next_job (task_in self.now task) (next_at self.now task) }
+    {
+        self.jobs.get(task).copied().unwrap_or_default()
+    }
+
     /// Whether the next job of a task is released now.
     pub(crate) fn is_due(&self, task: usize) -> bool
-        requires { task < length (tasks_in self.now.plan) }
         ensures { result ≡ due self.now.clock (task_in self.now task) (next_at self.now task) }
     {
-        self.jobs[task].release == self.clock
+        self.next(task).release == self.clock
     }
 
     /// The number of the live job of a task.
-    pub(crate) fn job(&self, task: usize) -> u64
-        requires { task < 16 }
+    pub(super) fn live_job(&self, task: usize) -> u64
         ensures { result ≡ live_job (next_at self.now task) }
     {
-        self.jobs[task].number.saturating_sub(1)
+        self.next(task).number.saturating_sub(1)
     }
 
     /// How many ticks there are until the deadline of the live job of a task.
     pub(crate) fn until(&self, task: usize) -> u32
-        requires { task < length (tasks_in self.now.plan) }
         ensures { result ≡ deadline_at (task_in self.now task) (live_job (next_at self.now task)) - self.now.clock }
     {
-        self.jobs[task].deadline.saturating_sub(self.clock) as u32
+        self.next(task).deadline.saturating_sub(self.clock) as u32
     }
 
     /// The instant at which the live job of a task was released.
-    pub(crate) fn release(&self, task: usize) -> u64
-        requires { task < length (tasks_in self.now.plan) }
+    pub(super) fn release(&self, task: usize) -> u64
         ensures { result ≡ release (task_in self.now task) (live_job (next_at self.now task)) }
     {
-        let deadline = self.tasks()[task].deadline;
-        self.jobs[task].deadline - u64::from(deadline)
+        self.next(task).deadline - u64::from(self.task(task).deadline)
     }
 }

@@ -21,14 +21,14 @@ impl Calendar {
 
     /// The next job of a task is released now, so that the one after it comes next. The answer is the work of the released job.
     pub(crate) fn count_release(&mut self, task: usize) -> u32
-        requires place { task < length (tasks_in self.old.plan) }
+        requires known { task < length (tasks_in self.old.plan) }
         requires released { due self.old.clock (task_in self.old task) (next_at self.old task) ≡ true }
         ensures work { result ≡ (task_in self.old task).work }
         ensures next { next_in self.new ≡ slice_set (next_in self.old) task (next_at self.old task + 1) }
         ensures clock { self.new.clock ≡ self.old.clock }
         ensures plan { self.new.plan ≡ self.old.plan }
     {
-        let released = self.tasks()[task];
+        let released = self.task(task);
         let job = &mut self.jobs[task];
         job.number += 1;
         job.release += u64::from(released.period);

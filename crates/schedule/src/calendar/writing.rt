@@ -12,31 +12,23 @@ use crate::rows::{JobRow, SwitchRow};
 impl Calendar {
     /// What is written down of a switch with this delay, if there was one.
     pub(crate) fn switch_row(&self, task: usize, delay: Option<u16>) -> Option<SwitchRow>
-        requires { task < 16 }
         ensures { result ≡ row_of_switch self.now.clock task (live_job (next_at self.now task)) delay }
     {
-        match delay {
-            Some(delay) => Some(SwitchRow {
-                instant: self.clock,
-                task,
-                job: self.job(task),
-                delay,
-            }),
-            None => None,
-        }
+        delay.map(|delay| SwitchRow {
+            instant: self.clock,
+            task,
+            job: self.live_job(task),
+            delay,
+        })
     }
 
     /// What is written down of the task's job, if it has finished with this tick.
     pub(crate) fn job_row(&self, task: usize, finished: bool, delay: u64) -> Option<JobRow>
-        requires { task < length (tasks_in self.now.plan) }
         ensures { result ≡ (if finished then Some (record { task = task; job = live_job (next_at self.now task); release = release (task_in self.now task) (live_job (next_at self.now task)); finish = self.now.clock + 1; delay = delay }) else None) }
     {
-        if !finished {
-            return None;
-        }
-        Some(JobRow {
+        finished.then(|| JobRow {
             task,
-            job: self.job(task),
+            job: self.live_job(task),
             release: self.release(task),
             finish: self.clock + 1,
             delay,

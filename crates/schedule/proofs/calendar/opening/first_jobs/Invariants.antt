@@ -1,13 +1,11 @@
-use Rattle.std.proofs.Common.{◌≡◌, ℕ, ◌<◌, ◌≤◌, length, map, replicate, get_or}
+use Rattle.std.proofs.Common.{◌≡◌, ℕ, ◌<◌, ◌≤◌, length, get_or}
 use Rattle.delay.specs.Figures.{zero_task}
 use Rattle.schedule.proofs.calendar.opening.first_jobs.Given as goal
 use Rattle.schedule.specs.Calendars.{next_job, no_job}
-use Rattle.schedule.specs.declared.calendar.next_job.NextJob.{NextJob}
 
 abbrev pub invariant-loop-i : goal.invariant-loop-i
 invariant-loop-i l = record {
   sized : length l.jobs ≡ 16;
-  numbers : map (λ (j : NextJob). j.number) l.jobs ≡ replicate 16 0;
   first : (k : ℕ) → k < l.i → get_or l.jobs k no_job ≡ next_job (get_or l.tasks k zero_task) 0;
-  near : (k : ℕ) → (get_or l.jobs k no_job).deadline ≤ 2097152;
+  rest : (k : ℕ) → l.i ≤ k → get_or l.jobs k no_job ≡ no_job;
 }
