@@ -4,6 +4,7 @@ use Rattle.schedule.proofs.Eaches.{each_ahead, each_more}
 use Rattle.schedule.specs.Each.{each}
 use Rattle.schedule.specs.Jobs.{counted, due, entered, vacant}
 use Rattle.schedule.specs.States.{Moment, Setting, next_of, slot_of, task_of}
+use Rattle.schedule.specs.Tables.{TaskReleased}
 use Rattle.schedule.specs.Ticks.{released}
 
 -- from x to y the jobs of the tasks below n were released, and nothing else happened
@@ -18,15 +19,7 @@ pub released_none : (c : Setting) (t : ℕ) (x : Moment) → ReleasedTo c t 0 x 
 unfolding each
 released_none c t x = record { slots = refl; next = refl; delays = refl; marks = refl; running = refl }
 
--- what the release of task n alone does
-pub record OneReleased (c : Setting) (t n : ℕ) (y z : Moment) : Type 0 where
-  pub slots : z.state.slots ≡ set y.state.slots n (entered t (task_of c n) (next_of y n) (slot_of y.state n))
-  pub next : z.next ≡ set y.next n (counted t (task_of c n) (next_of y n))
-  pub delays : z.delays ≡ set y.delays n (cond (due t (task_of c n) (next_of y n)) 0 (get_or y.delays n 0))
-  pub marks : z.state.marks ≡ y.state.marks
-  pub running : z.state.running ≡ y.state.running
-
-pub released_more : (c : Setting) (t n : ℕ) (x y z : Moment) → ReleasedTo c t n x y → OneReleased c t n y z → ReleasedTo c t (n + 1) x z
+pub released_more : (c : Setting) (t n : ℕ) (x y z : Moment) → ReleasedTo c t n x y → TaskReleased c t n y z → ReleasedTo c t (n + 1) x z
 released_more c t n x y z r o =
     let number : next_of y n ≡ next_of x n = ap (λ (l : List ℕ). get_or l n 0) r.next ∙ each_ahead 0 n _ x.next n 0 (omega arith) in
     let slot : slot_of y.state n ≡ slot_of x.state n = ap (λ l. get_or l n vacant) r.slots ∙ each_ahead vacant n _ x.state.slots n vacant (omega arith) in

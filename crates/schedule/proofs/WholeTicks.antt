@@ -3,7 +3,7 @@ use Rattle.std.proofs.Common.{◌≡◌, ℕ, List, [], Option, ap, ◌∙◌}
 use Rattle.delay.specs.declared.mark.Mark.{Mark}
 use Rattle.schedule.specs.Rows.{job_row, job_row_of, switch_row, switch_row_of}
 use Rattle.schedule.specs.States.{Moment, Setting}
-use Rattle.schedule.specs.Tables.{Ticked, moment_of, timed}
+use Rattle.schedule.specs.Tables.{Passed, Ticked, moment_of, timed}
 use Rattle.schedule.specs.Ticks.{charged, chosen, released, served, tick}
 use Rattle.schedule.specs.declared.rows.TickRows.{TickRows}
 use Rattle.schedule.specs.declared.ticking.Schedule.{Schedule}
@@ -16,21 +16,12 @@ marks_aside c t a b ms e = λ i. record {
   delays = (e i).delays;
 }
 
--- what the steps after the releases did, in a setting d at an instant u that are those of the tick
-pub record Done (d : Setting) (u : ℕ) (y z : Moment) (o : Option ℕ) (rows : TickRows) : Type 0 where
-  pub choice : o ≡ chosen d u y
-  pub state : z.state ≡ served d o y.state
-  pub next : z.next ≡ y.next
-  pub delays : z.delays ≡ charged d o y
-  pub switch : rows.switch ≡ switch_row_of d u y o
-  pub job : rows.job ≡ job_row_of d u y o
-
-pub done_ticked : (c d : Setting) (t u : ℕ) (x y z : Moment) (o : Option ℕ) (rows : TickRows) → d ≡ c → u ≡ t → y ≡ released c t x → Done d u y z o rows → Ticked c t x z rows
+pub done_ticked : (c d : Setting) (t u : ℕ) (x y z : Moment) (o : Option ℕ) (rows : TickRows) → d ≡ c → u ≡ t → y ≡ released c t x → o ≡ chosen d u y → Passed d u o y z rows → Ticked c t x z rows
 unfolding tick switch_row job_row
-done_ticked c d t u x y z o rows same now entry done =
+done_ticked c d t u x y z o rows same now entry named done =
     let r = released c t x in
     let choice : o ≡ chosen c t r =
-    done.choice ∙ (ap (λ (v : Setting). chosen v u y) same ∙ (ap (λ (v : ℕ). chosen c v y) now ∙ ap (λ (v : Moment). chosen c t v) entry)) in
+    named ∙ (ap (λ (v : Setting). chosen v u y) same ∙ (ap (λ (v : ℕ). chosen c v y) now ∙ ap (λ (v : Moment). chosen c t v) entry)) in
     let state : z.state ≡ served c (chosen c t r) r.state =
     done.state
     ∙ (ap (λ (v : Setting). served v o y.state) same ∙ (ap (λ (v : Option ℕ). served c v y.state) choice ∙ ap (λ (v : Moment). served c (chosen c t r) v.state) entry)) in

@@ -5,4 +5,5 @@ pub mod States
 pub mod Ticks
 pub mod Rows
 pub mod Schedules
+pub mod JobTables
 pub mod Tables

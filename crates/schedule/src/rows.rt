@@ -1,7 +1,7 @@
 //! What a tick writes down.
 
 /// A switch: a task that was not running gets the core.
-#[derive(Clone, Copy, PartialEq, Eq)]
+#[derive(Clone, Copy, Default, PartialEq, Eq)]
 pub struct SwitchRow {
     /// the instant at which the tick begins
     pub instant: u64,
@@ -13,7 +13,7 @@ pub struct SwitchRow {
 }
 
 /// A job that has finished.
-#[derive(Clone, Copy, PartialEq, Eq)]
+#[derive(Clone, Copy, Default, PartialEq, Eq)]
 pub struct JobRow {
     pub task: usize,
     pub job: u64,
@@ -24,7 +24,7 @@ pub struct JobRow {
 }
 
 /// What one tick writes down.
-#[derive(Clone, Copy, PartialEq, Eq)]
+#[derive(Clone, Copy, Default, PartialEq, Eq)]
 pub struct TickRows {
     /// its switch, if it is one
     pub switch: Option<SwitchRow>,

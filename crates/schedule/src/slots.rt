@@ -1,15 +1,10 @@
 //! The live job of a task.
 
-ghost use Rattle.std.specs.Prelude.{◌≡◌, ◌↔◌, IsTrue, nat_eq};
+ghost use Rattle.std.specs.Prelude.{◌≡◌};
 ghost use Rattle.schedule.specs.Ticks.{worked};
-ghost use Rattle.std.specs.Ordering.{on, eq_of_both};
-ghost use Rattle.std.specs.Bool.{beq};
-ghost use Rattle.std.specs.Cmp.Rules.{comparing};
-ghost use Rattle.std.proofs.Common.{rules};
-ghost use Rattle.std.specs.Cmp as Keys;
 
 /// What is known of a task's live job. Where no job is live, all is zero.
-#[derive(Clone, Copy, Default)]
+#[derive(Clone, Copy, Default, PartialEq, Eq)]
 pub struct Slot {
     /// a job of the task is live
     pub live: bool,
@@ -19,26 +14,6 @@ pub struct Slot {
     pub owed: u64,
     /// it has had the core before
     pub begun: bool,
-}
-
-impl PartialEq for Slot {
-    ghost eq = { eq_of_both (on (λ v. v.live) beq) (eq_of_both (on (λ v. v.left) nat_eq) (eq_of_both (on (λ v. v.owed) nat_eq) (on (λ v. v.begun) beq))) };
-
-    ghost laws = { Keys.partial_equiv_from_equiv (Prim.search (comparing, rules)) };
-
-    fn eq(&self, other: &Slot) -> bool
-        ensures parts { result ≡ eq_of_both (on (λ v. v.live) beq) (eq_of_both (on (λ v. v.left) nat_eq) (eq_of_both (on (λ v. v.owed) nat_eq) (on (λ v. v.begun) beq))) self.now other.now }
-        ensures same { IsTrue result ↔ (self.now ≡ other.now) }
-    {
-        self.live == other.live
-            && self.left == other.left
-            && self.owed == other.owed
-            && self.begun == other.begun
-    }
-}
-
-impl Eq for Slot {
-    ghost laws = { Prim.search (comparing, rules) };
 }
 
 impl Slot {

@@ -1,8 +1,7 @@
 //! The schedule of a plan, from one tick to the next.
 
-ghost use Rattle.std.specs.Prelude.{ℕ, ◌*◌, ◌≤◌, map, slice_index, slice_index_or};
-ghost use Rattle.schedule.specs.Jobs.{vacant};
-ghost use Rattle.schedule.specs.declared.jobs.LiveJob.{LiveJob};
+ghost use Rattle.std.specs.Prelude.{ℕ, ◌*◌, ◌≤◌};
+ghost use Rattle.schedule.specs.JobTables.{delay_at, slot_at};
 
 mod choosing;
 mod opening;
@@ -22,6 +21,6 @@ pub const LAST_INSTANT: u64 = 1_000_000_000_000;
 pub struct Schedule {
     calendar: Calendar,
     jobs: JobTable,
-    ghost owing: { (i : ℕ) → (slice_index_or (map (λ (j : LiveJob). j.slot) jobs.jobs) i vacant).owed ≤ 4096 * calendar.clock },
-    ghost charging: { (i : ℕ) → slice_index (map (λ (j : LiveJob). j.delay) jobs.jobs) i ≤ 4096 * calendar.clock },
+    ghost owing: { (i : ℕ) → (slot_at jobs i).owed ≤ 4096 * calendar.clock },
+    ghost charging: { (i : ℕ) → delay_at jobs i ≤ 4096 * calendar.clock },
 }

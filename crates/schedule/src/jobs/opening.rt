@@ -2,7 +2,7 @@
 
 ghost use Rattle.std.specs.Prelude.{◌≡◌, ◌<◌, true, false, replicate, None, slice_set};
 ghost use Rattle.schedule.specs.Jobs.{vacant};
-ghost use Rattle.schedule.specs.Tables.{delays_in, slots_in};
+ghost use Rattle.schedule.specs.JobTables.{delays_in, slots_in};
 
 use super::{JobTable, LiveJob};
 use crate::slots::Slot;

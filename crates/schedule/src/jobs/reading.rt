@@ -1,7 +1,7 @@
 //! What the table says of a task.
 
 ghost use Rattle.std.specs.Prelude.{◌≡◌};
-ghost use Rattle.schedule.specs.Tables.{delay_at, slot_at};
+ghost use Rattle.schedule.specs.JobTables.{delay_at, slot_at};
 ghost use Rattle.schedule.specs.Ticks.{runs};
 
 use super::{JobTable, LiveJob};

@@ -2,7 +2,8 @@
 
 ghost use Rattle.std.specs.Prelude.{◌≡◌, ◌+◌, ◌^◌, ◌<◌, [], if◌then◌else◌, Some, None, ◌==◌, slice_set};
 ghost use Rattle.schedule.specs.Rows.{finishes};
-ghost use Rattle.schedule.specs.Tables.{delay_at, delays_in, slot_at, slots_in, state_of, unruled};
+ghost use Rattle.schedule.specs.JobTables.{delay_at, delays_in, slot_at, slots_in};
+ghost use Rattle.schedule.specs.Tables.{state_of, unruled};
 ghost use Rattle.schedule.specs.Ticks.{delay_to, runs, served, settled, spent};
 
 use super::{JobTable, LiveJob};

@@ -1,7 +1,8 @@
 //! Step 3 of a tick: the chosen task gets the core.
 
 ghost use Rattle.std.specs.Prelude.{◌≡◌, ◌+◌, ◌^◌, ◌<◌, [], if◌then◌else◌, Some, None, slice_set};
-ghost use Rattle.schedule.specs.Tables.{delay_at, delays_in, slot_at, state_of, unruled};
+ghost use Rattle.schedule.specs.JobTables.{delay_at, delays_in, slot_at};
+ghost use Rattle.schedule.specs.Tables.{state_of, unruled};
 ghost use Rattle.schedule.specs.Ticks.{delay_to, loses, lost, runs, switched};
 
 use super::JobTable;

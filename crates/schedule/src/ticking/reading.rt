@@ -2,7 +2,7 @@
 
 ghost use Rattle.std.specs.Prelude.{◌≡◌, []};
 ghost use Rattle.schedule.specs.States.{slot_of};
-ghost use Rattle.schedule.specs.Tables.{moment_of};
+ghost use Rattle.schedule.specs.Tables.{clock_of, moment_of};
 
 use super::Schedule;
 use crate::slots::Slot;
@@ -10,7 +10,7 @@ use crate::slots::Slot;
 impl Schedule {
     /// The instant that has been reached.
     pub fn clock(&self) -> u64
-        ensures { result ≡ self.now.calendar.clock }
+        ensures { result ≡ clock_of self.now }
     {
         self.calendar.clock()
     }

@@ -1,7 +1,7 @@
 use Rattle.std.proofs.Common.{get_or, set, sym, ap, ◌∙◌}
 use Rattle.schedule.proofs.LiveJobs.{delays_kept, none_live, slot_read, slots_set}
 use Rattle.schedule.proofs.jobs.JobTable.spend.Goals as goal
-use Rattle.schedule.specs.Tables.{slots_in}
+use Rattle.schedule.specs.JobTables.{slots_in}
 use Rattle.schedule.specs.Ticks.{worked}
 
 pub returns-clause-state : goal.returns-clause-state

@@ -1,11 +1,11 @@
 use Rattle.std.proofs.Common.{◌≡◌, []}
-use Rattle.plan.specs.Plans.{tasks_in}
 use Rattle.schedule.proofs.Releases.{ReleasedTo}
 use Rattle.schedule.proofs.ticking.Schedule.release.Given as goal
-use Rattle.schedule.specs.Tables.{moment_of, timed}
+use Rattle.schedule.specs.Tables.{clock_of, moment_of, plan_of, tasks_of, timed}
 
 abbrev pub invariant-loop-task : goal.invariant-loop-task
-invariant-loop-task l =
-    (l.self.calendar.plan ≡ l.initial.self.calendar.plan)
-    × (l.self.calendar.clock ≡ l.initial.self.calendar.clock)
-    × ReleasedTo (timed (tasks_in l.initial.self.calendar.plan)) l.initial.self.calendar.clock l.task (moment_of l.initial.self []) (moment_of l.self [])
+invariant-loop-task l = record {
+  plan : plan_of l.self ≡ plan_of l.initial.self;
+  clock : clock_of l.self ≡ clock_of l.initial.self;
+  released : ReleasedTo (timed (tasks_of l.initial.self)) (clock_of l.initial.self) l.task (moment_of l.initial.self []) (moment_of l.self []);
+}

@@ -3,7 +3,7 @@ use Rattle.std.proofs.lemmas.List.{set-get_or}
 use Rattle.schedule.proofs.Places.{placed_set}
 use Rattle.schedule.proofs.ticking.Schedule.release_task.Goals as goal
 use Rattle.schedule.specs.Jobs.{vacant}
-use Rattle.schedule.specs.Tables.{delays_in, slots_in}
+use Rattle.schedule.specs.JobTables.{delays_in, slots_in}
 
 pub invariant_of-self : goal.invariant_of-self
 invariant_of-self c =

@@ -31,13 +31,13 @@ returns g c =
             (ap (λ p. setting_of p rule profile) c.release.ensures.plan)
             c.release.ensures.clock
             (marks_aside setting old.calendar.clock old entered marks c.release.ensures.moment)
+            c.choose-choice.ensures.value
             (record {
-              choice = c.choose-choice.ensures.value;
-              state = passed.state;
-              next = passed.next;
-              delays = passed.delays;
-              switch = passed.switch;
-              job = passed.job;
+              state = passed.passed.state;
+              next = passed.passed.next;
+              delays = passed.passed.delays;
+              switch = passed.passed.switch;
+              job = passed.passed.job;
             }),
       );
     }
