@@ -15,21 +15,6 @@ const S: [u8; 60] = [
     0x00, 0x00, 0x00, 0x06, 0x00, 0x00, 0x00, 0x00, 0x00, 0x00, 0x00, 0x00,
 ];
 
-const NO_SWITCH: SwitchRow = SwitchRow {
-    instant: 0,
-    task: 0,
-    job: 0,
-    delay: 0,
-};
-
-const NO_JOB: JobRow = JobRow {
-    task: 0,
-    job: 0,
-    release: 0,
-    finish: 0,
-    delay: 0,
-};
-
 /// Does so many ticks and writes their rows into the logs.
 fn do_ticks<P: Policy, M: DelayModel>(
     schedule: &mut Schedule,
@@ -41,50 +26,37 @@ fn do_ticks<P: Policy, M: DelayModel>(
 ) {
     for _ in 0..count {
         if let Some(rows) = schedule.tick(policy, model) {
-            if let Some(row) = rows.switch {
-                let _ = switches.push(row);
-            }
-            if let Some(row) = rows.job {
-                let _ = jobs.push(row);
-            }
+            let _ = rows.switch.map(|row| switches.push(row));
+            let _ = rows.job.map(|row| jobs.push(row));
         }
     }
 }
 
-/// Whether the log has just these rows: instant, task, job, delay.
-fn switches_are(log: &Log<SwitchRow>, table: &[(u64, usize, u64, u16)]) -> bool {
-    for (number, (instant, task, job, delay)) in table.iter().enumerate() {
-        match log.row(number) {
-            Ok(row) => {
-                if row.instant != *instant || row.task != *task {
-                    return false;
-                }
-                if row.job != *job || row.delay != *delay {
-                    return false;
-                }
-            }
-            Err(_) => return false,
-        }
+/// Instant, task, job, delay.
+fn switch_row((instant, task, job, delay): (u64, usize, u64, u16)) -> SwitchRow {
+    SwitchRow {
+        instant,
+        task,
+        job,
+        delay,
     }
-    log.len() == table.len()
 }
 
-/// Whether the log has just these rows: task, job, release, finish, delay.
-fn jobs_are(log: &Log<JobRow>, table: &[(usize, u64, u64, u64, u64)]) -> bool {
-    for (number, (task, job, release, finish, delay)) in table.iter().enumerate() {
-        match log.row(number) {
-            Ok(row) => {
-                if row.task != *task || row.job != *job || row.delay != *delay {
-                    return false;
-                }
-                if row.release != *release || row.finish != *finish {
-                    return false;
-                }
-            }
-            Err(_) => return false,
-        }
+/// Task, job, release, finish, delay.
+fn job_row((task, job, release, finish, delay): (usize, u64, u64, u64, u64)) -> JobRow {
+    JobRow {
+        task,
+        job,
+        release,
+        finish,
+        delay,
     }
-    log.len() == table.len()
+}
+
+/// Whether the log has just these rows.
+fn has_rows<T: Copy + PartialEq>(log: &Log<T>, rows: &[T]) -> bool {
+    let same = |(number, row): (usize, &T)| log.row(number).is_ok_and(|x| x == *row);
+    log.len() == rows.len() && rows.iter().enumerate().all(same)
 }
 
 /// Whether so many ticks of a plan write just these rows.
@@ -93,12 +65,12 @@ fn rows_are<P: Policy, M: DelayModel>(
     policy: &P,
     model: &mut M,
     count: u64,
-    switch_table: &[(u64, usize, u64, u16)],
-    job_table: &[(usize, u64, u64, u64, u64)],
+    switch_table: &[SwitchRow],
+    job_table: &[JobRow],
 ) -> bool {
-    let mut switch_rows = [NO_SWITCH; 8];
+    let mut switch_rows = [SwitchRow::default(); 8];
     let mut switches = Log::over(&mut switch_rows);
-    let mut job_rows = [NO_JOB; 8];
+    let mut job_rows = [JobRow::default(); 8];
     let mut jobs = Log::over(&mut job_rows);
     let mut schedule = Schedule::new(plan);
     do_ticks(
@@ -109,7 +81,7 @@ fn rows_are<P: Policy, M: DelayModel>(
         &mut switches,
         &mut jobs,
     );
-    switches_are(&switches, switch_table) && jobs_are(&jobs, job_table)
+    has_rows(&switches, switch_table) && has_rows(&jobs, job_table)
 }
 
 #[test]
@@ -123,8 +95,9 @@ fn useful_blocks_under_fixed_priority_pay_twice(rt: HostRuntime) -> Result<(), F
         (3, 1, 0, 2),
         (7, 0, 1, 0),
         (9, 1, 0, 2),
-    ];
-    let jobs = [(0, 0, 1, 3, 0), (0, 1, 7, 9, 0)];
+    ]
+    .map(switch_row);
+    let jobs = [(0, 0, 1, 3, 0), (0, 1, 7, 9, 0)].map(job_row);
     assert!(rt; rows_are(&plan, &policy, &mut model, 12, &switches, &jobs));
     Ok(())
 }
@@ -141,8 +114,9 @@ fn loaded_blocks_under_fixed_priority_pay_for_what_was_loaded(rt: HostRuntime) -
         (7, 0, 1, 0),
         (9, 1, 0, 2),
         (12, 1, 1, 0),
-    ];
-    let jobs = [(0, 0, 1, 3, 0), (0, 1, 7, 9, 0), (1, 0, 0, 12, 3)];
+    ]
+    .map(switch_row);
+    let jobs = [(0, 0, 1, 3, 0), (0, 1, 7, 9, 0), (1, 0, 0, 12, 3)].map(job_row);
     assert!(rt; rows_are(&plan, &policy, &mut model, 13, &switches, &jobs));
     Ok(())
 }
@@ -154,8 +128,8 @@ fn nothing_is_preempted_under_the_layer(rt: HostRuntime) -> Result<(), Fail> {
         below: FixedPriority::new(&plan),
     };
     let mut model = UsefulBlocks::new(&plan);
-    let switches = [(0, 1, 0, 0), (5, 0, 0, 0), (7, 0, 1, 0), (12, 1, 1, 0)];
-    let jobs = [(1, 0, 0, 5, 0), (0, 0, 1, 7, 0), (0, 1, 7, 9, 0)];
+    let switches = [(0, 1, 0, 0), (5, 0, 0, 0), (7, 0, 1, 0), (12, 1, 1, 0)].map(switch_row);
+    let jobs = [(1, 0, 0, 5, 0), (0, 0, 1, 7, 0), (0, 1, 7, 9, 0)].map(job_row);
     assert!(rt; rows_are(&plan, &policy, &mut model, 13, &switches, &jobs));
     Ok(())
 }
@@ -170,8 +144,9 @@ fn the_nearer_deadline_keeps_the_core(rt: HostRuntime) -> Result<(), Fail> {
         (3, 1, 0, 2),
         (9, 0, 1, 0),
         (12, 1, 1, 0),
-    ];
-    let jobs = [(0, 0, 1, 3, 0), (1, 0, 0, 9, 2), (0, 1, 7, 11, 0)];
+    ]
+    .map(switch_row);
+    let jobs = [(0, 0, 1, 3, 0), (1, 0, 0, 9, 2), (0, 1, 7, 11, 0)].map(job_row);
     assert!(rt; rows_are(&plan, &EarliestDeadline, &mut model, 13, &switches, &jobs));
     Ok(())
 }
