@@ -1,6 +1,5 @@
 pub mod Eaches
 pub mod Losses
-pub mod Delays
 pub mod LiveJobs
 pub mod Places
 pub mod Calendars

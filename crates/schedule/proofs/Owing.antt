@@ -1,5 +1,5 @@
 -- What jobs owe, and the delays answered to them, grow by one answer a tick at most.
-use Rattle.std.proofs.Common.{ℕ, ◌+◌, ◌≤◌, Bool, true, false, cond, eqb, List, get_or, set, Some, arith}
+use Rattle.std.proofs.Common.{◌≡◌, ℕ, ◌+◌, ◌≤◌, Bool, true, false, cond, eqb, List, get_or, set, Some, sym, subst, arith}
 use Rattle.std.proofs.lemmas.Bool.{cond_both}
 use Rattle.delay.specs.Marks.{zero_mark}
 use Rattle.delay.specs.Profiles.{Profile}
@@ -45,10 +45,10 @@ module _ (c : Setting) (small : Small c.profile) where
   settled_owing b j s h =
       cond_both {A = State} (eqb (slot_of s j).left 0) _ _ (Owing b) (λ _. placed_set (λ _ v. v.owed ≤ b) vacant s.slots j vacant (omega arith) h) (λ _. h)
 
-  pub served_owing : (b j : ℕ) (s : State) → Owing b s → Owing (b + 4096) (served c (Some j) s)
-  served_owing b j s h =
-      settled_owing (b + 4096) j (spent c j (switched c j s)) (spent_owing (b + 4096) j (switched c j s) (switched_owing b j s h))
+  pub served_owing : (b j : ℕ) (s z : State) → z ≡ served c (Some j) s → Owing b s → Owing (b + 4096) z
+  served_owing b j s z e h =
+      subst (Owing (b + 4096)) (sym e) (settled_owing (b + 4096) j (spent c j (switched c j s)) (spent_owing (b + 4096) j (switched c j s) (switched_owing b j s h)))
 
-  pub charged_small : (b j : ℕ) (ds : List ℕ) (s : State) → ((i : ℕ) → get_or ds i 0 ≤ b) → (i : ℕ) → get_or (set ds j (get_or ds j 0 + delay_to c j s)) i 0 ≤ b + 4096
-  charged_small b j ds s h =
-      placed_set (λ _ n. n ≤ b + 4096) 0 ds j (get_or ds j 0 + delay_to c j s) (omega (arith, h j, delay_small j s)) (λ i. omega (arith, h i))
+  pub charged_small : (b j : ℕ) (ds es : List ℕ) (s : State) → es ≡ set ds j (get_or ds j 0 + delay_to c j s) → ((i : ℕ) → get_or ds i 0 ≤ b) → (i : ℕ) → get_or es i 0 ≤ b + 4096
+  charged_small b j ds es s e h i =
+      rw e (placed_set (λ _ n. n ≤ b + 4096) 0 ds j (get_or ds j 0 + delay_to c j s) (omega (arith, h j, delay_small j s)) (λ i. omega (arith, h i)) i)

@@ -3,7 +3,7 @@ use Rattle.std.proofs.Common.{◌≡◌, ℕ, List, [], Option, ap, ◌∙◌}
 use Rattle.delay.specs.declared.mark.Mark.{Mark}
 use Rattle.schedule.specs.Rows.{job_row, job_row_of, switch_row, switch_row_of}
 use Rattle.schedule.specs.States.{Moment, Setting}
-use Rattle.schedule.specs.Tables.{Passed, Ticked, moment_of, timed}
+use Rattle.schedule.specs.Tables.{Passed, Ticked, moment_of, timed, unruled}
 use Rattle.schedule.specs.Ticks.{charged, chosen, released, served, tick}
 use Rattle.schedule.specs.declared.rows.TickRows.{TickRows}
 use Rattle.schedule.specs.declared.ticking.Schedule.{Schedule}
@@ -16,26 +16,15 @@ marks_aside c t a b ms e = λ i. record {
   delays = (e i).delays;
 }
 
-pub done_ticked : (c d : Setting) (t u : ℕ) (x y z : Moment) (o : Option ℕ) (rows : TickRows) → d ≡ c → u ≡ t → y ≡ released c t x → o ≡ chosen d u y → Passed d u o y z rows → Ticked c t x z rows
+-- what the steps after the releases did, which ask no policy, makes a whole tick
+pub passed_ticked : (c : Setting) (t : ℕ) (x z : Moment) (o : Option ℕ) (rows : TickRows) → o ≡ chosen c t (released c t x) → Passed (unruled c.tasks c.profile) t o (released c t x) z rows → Ticked c t x z rows
 unfolding tick switch_row job_row
-done_ticked c d t u x y z o rows same now entry named done =
+passed_ticked c t x z o rows named passed =
     let r = released c t x in
-    let choice : o ≡ chosen c t r =
-    named ∙ (ap (λ (v : Setting). chosen v u y) same ∙ (ap (λ (v : ℕ). chosen c v y) now ∙ ap (λ (v : Moment). chosen c t v) entry)) in
-    let state : z.state ≡ served c (chosen c t r) r.state =
-    done.state
-    ∙ (ap (λ (v : Setting). served v o y.state) same ∙ (ap (λ (v : Option ℕ). served c v y.state) choice ∙ ap (λ (v : Moment). served c (chosen c t r) v.state) entry)) in
-    let next : z.next ≡ r.next = done.next ∙ ap (λ (v : Moment). v.next) entry in
-    let delays : z.delays ≡ charged c (chosen c t r) r =
-    done.delays ∙ (ap (λ (v : Setting). charged v o y) same ∙ (ap (λ (v : Option ℕ). charged c v y) choice ∙ ap (λ (v : Moment). charged c (chosen c t r) v) entry)) in
+    let state = passed.state ∙ ap (λ (v : Option ℕ). served c v r.state) named in
+    let delays = passed.delays ∙ ap (λ (v : Option ℕ). charged c v r) named in
     record {
-      after = λ i. record { state = state i; next = next i; delays = delays i };
-      switch =
-          done.switch
-          ∙ (ap (λ (v : Setting). switch_row_of v u y o) same
-          ∙ (ap (λ (v : ℕ). switch_row_of c v y o) now ∙ (ap (λ (v : Option ℕ). switch_row_of c t y v) choice ∙ ap (λ (v : Moment). switch_row_of c t v (chosen c t r)) entry)));
-      job =
-          done.job
-          ∙ (ap (λ (v : Setting). job_row_of v u y o) same
-          ∙ (ap (λ (v : ℕ). job_row_of c v y o) now ∙ (ap (λ (v : Option ℕ). job_row_of c t y v) choice ∙ ap (λ (v : Moment). job_row_of c t v (chosen c t r)) entry)));
+      after = λ i. record { state = state i; next = passed.next i; delays = delays i };
+      switch = passed.switch ∙ ap (switch_row_of c t r) named;
+      job = passed.job ∙ ap (job_row_of c t r) named;
     }

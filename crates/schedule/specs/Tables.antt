@@ -9,12 +9,11 @@
 --     tasks_of b                   its tasks
 --     clock_of b                   the instant that it has reached
 --     moment_of b ms               the moment of a schedule and the marks of a model
---     is_below n o                 o is none, or a number below n
 --     row_of_switch t j m o        the row of a switch to job m of task j at instant t, where o is the delay or none
 --     TaskReleased c t i x y       the release of task i alone at instant t leads from the moment x to the moment y
 --     Passed c t o x y rows        steps 3 to 5 at instant t lead from the moment x to the moment y where the choice is o, and write these rows
 --     Ticked c t x y rows          tick t leads from the moment x to the moment y and writes these rows
-use Rattle.std.specs.Prelude.{◌≡◌, ℕ, Bool, true, cond, List, map, Some, None, Option, nat_lt, slice_index, slice_index_or, slice_set}
+use Rattle.std.specs.Prelude.{◌≡◌, ℕ, cond, List, map, Some, None, Option, slice_index, slice_index_or, slice_set}
 use Rattle.delay.specs.Figures.{zero_task}
 use Rattle.delay.specs.Models.{no_delay}
 use Rattle.delay.specs.Profiles.{Profile}
@@ -73,11 +72,6 @@ clock_of b = b.calendar.clock
 -- The instant is the schedule's clock.
 abbrev pub moment_of : Schedule → List Mark → Moment
 moment_of b ms = record { state = state_of b.jobs ms; next = next_in b.calendar; delays = delays_in b.jobs }
-
--- A policy names only a task of the plan.
-abbrev pub is_below : ℕ → Option ℕ → Bool
-is_below n None = true
-is_below n (Some j) = nat_lt j n
 
 -- Where there is no switch, no delay is told.
 abbrev pub row_of_switch : ℕ → ℕ → ℕ → Option ℕ → Option SwitchRow

@@ -1,11 +1,9 @@
 //! The calendar at instant 0.
 
-ghost use Rattle.std.specs.Prelude.{◌≡◌, ℕ, ◌<◌, ◌≤◌, true, length, map, replicate, slice_index_or};
+ghost use Rattle.std.specs.Prelude.{◌≡◌, ℕ, ◌≤◌, length, replicate, slice_index_or};
 ghost use Rattle.delay.specs.Figures.{zero_task};
-ghost use Rattle.plan.specs.Tasks.{all_of, lawful};
 ghost use Rattle.schedule.specs.Calendars.{next_job, no_job};
 ghost use Rattle.schedule.specs.Tables.{next_in};
-ghost use Rattle.schedule.specs.declared.calendar.next_job.NextJob.{NextJob};
 
 use super::{Calendar, NextJob};
 use plan::{MOST_TASKS, Plan, Task};

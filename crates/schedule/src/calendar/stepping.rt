@@ -1,7 +1,6 @@
 //! The clock goes on, and jobs are counted as they are released.
 
-ghost use Rattle.std.specs.Prelude.{◌≡◌, ◌+◌, ◌<◌, true, length, get_or, slice_index, slice_index_or, slice_set};
-ghost use Rattle.delay.specs.Figures.{zero_task};
+ghost use Rattle.std.specs.Prelude.{◌≡◌, ◌+◌, ◌<◌, true, length, slice_set};
 ghost use Rattle.plan.specs.Plans.{tasks_in};
 ghost use Rattle.schedule.specs.Jobs.{due};
 ghost use Rattle.schedule.specs.Tables.{next_at, next_in, task_in};

@@ -1,8 +1,6 @@
 //! What is written down at an instant.
 
-ghost use Rattle.std.specs.Prelude.{◌≡◌, ◌+◌, ◌<◌, length, if◌then◌else◌, Some, None, slice_index, slice_index_or};
-ghost use Rattle.delay.specs.Figures.{zero_task};
-ghost use Rattle.plan.specs.Plans.{tasks_in};
+ghost use Rattle.std.specs.Prelude.{◌≡◌, ◌+◌, if◌then◌else◌, Some, None};
 ghost use Rattle.schedule.specs.Jobs.{live_job, release};
 ghost use Rattle.schedule.specs.Tables.{next_at, row_of_switch, task_in};
 

@@ -1,9 +1,9 @@
 //! Step 2 of a tick: the policy is shown the tasks and chooses.
 
-ghost use Rattle.std.specs.Prelude.{◌≡◌, true, [], length, take};
+ghost use Rattle.std.specs.Prelude.{◌≡◌, ◌<◌, [], length, take, IfSome};
 ghost use Rattle.schedule.specs.JobTables.{slot_at};
 ghost use Rattle.schedule.specs.Jobs.{shown};
-ghost use Rattle.schedule.specs.Tables.{clock_of, is_below, moment_of, next_at, task_in, tasks_of, timed};
+ghost use Rattle.schedule.specs.Tables.{clock_of, moment_of, next_at, task_in, tasks_of, timed};
 ghost use Rattle.schedule.specs.Ticks.{candidates};
 
 use super::Schedule;
@@ -45,7 +45,7 @@ impl Schedule {
     /// The task that the policy names, or nothing for idle.
     pub(super) fn choose<P: Policy>(&self, policy: &P) -> Option<usize>
         ensures value { result ≡ P.Policy.rule policy.now (candidates (timed (tasks_of self.now)) (clock_of self.now) (moment_of self.now [])) self.now.jobs.running }
-        ensures known { is_below (length (tasks_of self.now)) result ≡ true }
+        ensures known { IfSome result (λ task. task < length (tasks_of self.now)) }
     {
         let rows = self.candidates();
         let count = self.calendar.tasks().len();

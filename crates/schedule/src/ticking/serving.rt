@@ -1,7 +1,7 @@
 //! Steps 3 to 5 of a tick: the chosen task is served, and the clock goes on.
 
-ghost use Rattle.std.specs.Prelude.{◌≡◌, ◌+◌, ◌<◌, true, length, Some};
-ghost use Rattle.schedule.specs.Tables.{Passed, clock_of, is_below, moment_of, plan_of, tasks_of, unruled};
+ghost use Rattle.std.specs.Prelude.{◌≡◌, ◌+◌, ◌<◌, length, Some, IfSome};
+ghost use Rattle.schedule.specs.Tables.{Passed, clock_of, moment_of, plan_of, tasks_of, unruled};
 
 use super::Schedule;
 use crate::rows::TickRows;
@@ -27,7 +27,7 @@ impl Schedule {
 
     /// The rest of a tick after the choice.
     pub(super) fn pass<M: DelayModel>(&mut self, model: &mut M, choice: Option<usize>) -> TickRows
-        requires known { is_below (length (tasks_of self.old)) choice ≡ true }
+        requires known { IfSome choice (λ task. task < length (tasks_of self.old)) }
         requires before { clock_of self.old < 1000000000000 }
         ensures same { M.DelayModel.profile model.new ≡ M.DelayModel.profile model.old }
         ensures plan { plan_of self.new ≡ plan_of self.old }

@@ -13,10 +13,10 @@ loop-task-preserved c =
     let one = rw (kept.plan, kept.clock) at made.moment in
     record { plan = made.plan ∙ kept.plan; clock = made.clock ∙ kept.clock; released = released_more _ _ _ _ _ _ kept.released one }
 
-pub returns : goal.returns
-returns c =
+pub returns-clause-moment : goal.returns-clause-moment
+returns-clause-moment c =
     let old = c.args.self.now in
     let kept = c.loop-task.invariant in
     let all : c.loop-task.task ≡ length (tasks_of old) = omega (arith, ap length c.tasks-count.ensures.value) in
     let done = subst (λ (n : ℕ). ReleasedTo (timed (tasks_of old)) old.calendar.clock n (moment_of old []) (moment_of c.loop-task.self [])) all kept.released in
-    record { plan = kept.plan; clock = kept.clock; moment = released_all (timed (tasks_of old)) _ _ _ done }
+    released_all (timed (tasks_of old)) _ _ _ done

@@ -1,5 +1,4 @@
-use Rattle.std.proofs.Common.{◌*◌, ◌≤◌, arith, rules}
-use Rattle.std.proofs.lemmas.List.{set-get_or}
+use Rattle.std.proofs.Common.{◌*◌, ◌≤◌, arith}
 use Rattle.schedule.proofs.Places.{placed_set}
 use Rattle.schedule.proofs.ticking.Schedule.release_task.Goals as goal
 use Rattle.schedule.specs.Jobs.{vacant}
@@ -16,6 +15,3 @@ invariant_of-self c =
           let delays = placed_set (λ _ n. n ≤ 4096 * old.calendar.clock) 0 (delays_in old.jobs) c.args.task _ (omega arith) old.charging i in
           rw (c.enter.ensures.delays, c.count_release-work.ensures.clock) delays;
     }
-
-pub returns-else-is_due : goal.returns-else-is_due
-returns-else-is_due c = search (rules, set-get_or)
