@@ -1,5 +1,6 @@
 -- The instants that the calendar keeps, as a job is counted.
 use Rattle.std.proofs.Common.{◌≡◌, ℕ, ◌+◌, ◌<◌, ◌≤◌, suc, true, List, [], ◌∷◌, map, replicate, length, get_or, refl, ap, ◌∙◌, arith, mul-le-mul_left}
+use Rattle.std.proofs.Math.ListN.{get_or-map}
 use Rattle.delay.specs.Figures.{zero_task}
 use Rattle.plan.proofs.TaskTimes.{times_at}
 use Rattle.plan.specs.Tasks.{all_of, lawful}
@@ -27,3 +28,6 @@ number_small ks j n t h l e =
 pub numbers_zero : (js : List NextJob) → ((i : ℕ) → (get_or js i no_job).number ≡ 0) → map (λ (j : NextJob). j.number) js ≡ replicate (length js) 0
 numbers_zero [] h = refl
 numbers_zero (j ∷ js) h = λ k. h 0 k ∷ numbers_zero js (λ i. h (suc i)) k
+
+pub number_read : (js : List NextJob) (i : ℕ) → get_or (map (λ (j : NextJob). j.number) js) i 0 ≡ (get_or js i no_job).number
+number_read js i = get_or-map (λ (j : NextJob). j.number) js i no_job

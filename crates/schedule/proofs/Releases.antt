@@ -1,5 +1,5 @@
 -- Jobs released one task after another.
-use Rattle.std.proofs.Common.{◌≡◌, ℕ, ◌+◌, cond, List, length, get_or, set, refl, ap, ◌∙◌, arith}
+use Rattle.std.proofs.Common.{◌≡◌, ℕ, ◌+◌, cond, List, length, get_or, refl, ap, ◌∙◌, arith}
 use Rattle.schedule.proofs.Eaches.{each_ahead, each_more}
 use Rattle.schedule.specs.Each.{each}
 use Rattle.schedule.specs.Jobs.{counted, due, entered, vacant}

@@ -41,7 +41,7 @@ impl Calendar {
     }
 
     /// Whether the next job of a task is released now.
-    pub(crate) fn is_due(&self, task: usize) -> bool
+    pub(super) fn is_due(&self, task: usize) -> bool
         ensures { result ≡ due self.now.clock (task_in self.now task) (next_at self.now task) }
     {
         self.next(task).release == self.clock

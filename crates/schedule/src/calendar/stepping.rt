@@ -1,8 +1,8 @@
 //! The clock goes on, and jobs are counted as they are released.
 
-ghost use Rattle.std.specs.Prelude.{◌≡◌, ◌+◌, ◌<◌, true, length, slice_set};
+ghost use Rattle.std.specs.Prelude.{◌≡◌, ◌+◌, ◌<◌, length, if◌then◌else◌, Some, None, slice_set};
 ghost use Rattle.plan.specs.Plans.{tasks_in};
-ghost use Rattle.schedule.specs.Jobs.{due};
+ghost use Rattle.schedule.specs.Jobs.{counted, due};
 ghost use Rattle.schedule.specs.Tables.{next_at, next_in, task_in};
 
 use super::Calendar;
@@ -18,20 +18,22 @@ impl Calendar {
         self.clock += 1;
     }
 
-    /// The next job of a task is released now, so that the one after it comes next. The answer is the work of the released job.
-    pub(crate) fn count_release(&mut self, task: usize) -> u32
-        requires known { task < length (tasks_in self.old.plan) }
-        requires released { due self.old.clock (task_in self.old task) (next_at self.old task) ≡ true }
-        ensures work { result ≡ (task_in self.old task).work }
-        ensures next { next_in self.new ≡ slice_set (next_in self.old) task (next_at self.old task + 1) }
+    /// Where the next job of a task is released now, the one after it comes next, and the answer is the work of the released job.
+    pub(crate) fn count_release(&mut self, task: usize) -> Option<u32>
+        requires { task < length (tasks_in self.old.plan) }
+        ensures work { result ≡ (if due self.old.clock (task_in self.old task) (next_at self.old task) then Some (task_in self.old task).work else None) }
+        ensures next { next_in self.new ≡ slice_set (next_in self.old) task (counted self.old.clock (task_in self.old task) (next_at self.old task)) }
         ensures clock { self.new.clock ≡ self.old.clock }
         ensures plan { self.new.plan ≡ self.old.plan }
     {
+        if !self.is_due(task) {
+            return None;
+        }
         let released = self.task(task);
         let job = &mut self.jobs[task];
         job.number += 1;
         job.release += u64::from(released.period);
         job.deadline = self.clock + u64::from(released.deadline);
-        released.work
+        Some(released.work)
     }
 }

@@ -14,8 +14,7 @@ impl Schedule {
         ensures clock { clock_of self.new ≡ clock_of self.old }
         ensures moment { TaskReleased (timed (tasks_of self.old)) (clock_of self.old) task (moment_of self.old []) (moment_of self.new []) }
     {
-        if self.calendar.is_due(task) {
-            let work = self.calendar.count_release(task);
+        if let Some(work) = self.calendar.count_release(task) {
             self.jobs.enter(task, work);
         }
     }

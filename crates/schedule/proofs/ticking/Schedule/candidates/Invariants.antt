@@ -1,4 +1,4 @@
-use Rattle.std.proofs.Common.{◌≡◌, [], map, length, take}
+use Rattle.std.proofs.Common.{◌≡◌, map, length, take}
 use Rattle.std.specs.List.{range_with_len}
 use Rattle.schedule.proofs.ticking.Schedule.candidates.Given as goal
 use Rattle.schedule.specs.JobTables.{slot_at}
