@@ -1,8 +1,9 @@
 -- The instants that the calendar keeps, as a job is counted.
-use Rattle.std.proofs.Common.{◌≡◌, ℕ, ◌+◌, ◌<◌, ◌≤◌, suc, true, List, [], ◌∷◌, map, replicate, length, get_or, refl, ap, ◌∙◌, arith, mul-le-mul_left}
+use Rattle.std.proofs.Common.{◌≡◌, ℕ, ◌+◌, ◌<◌, ◌≤◌, zero, suc, true, List, [], ◌∷◌, map, replicate, length, get_or, refl, ap, ◌∙◌, arith, mul-le-mul_left}
 use Rattle.std.proofs.Math.ListN.{get_or-map}
+use Rattle.std.proofs.lemmas.Bool.{and_parts}
 use Rattle.delay.specs.Figures.{zero_task}
-use Rattle.plan.proofs.TaskTimes.{times_at}
+use Rattle.plan.proofs.TaskTimes.{times_at, times_of}
 use Rattle.plan.specs.Tasks.{all_of, lawful}
 use Rattle.plan.specs.declared.tasks.Task.{Task}
 use Rattle.schedule.specs.Calendars.{next_job, no_job}
@@ -23,6 +24,12 @@ number_small ks j n t h l e =
     let k = times_at ks j zero_task h l in
     let one : 1 ≤ (get_or ks j zero_task).period = omega arith in
     omega (arith, mul-le-mul_left n one)
+
+-- the deadline of job 0
+pub first_near : (ks : List Task) (i : ℕ) → all_of lawful ks ≡ true → (next_job (get_or ks i zero_task) 0).deadline ≤ 2097152
+first_near [] i h = omega arith
+first_near (k ∷ ks) zero h = let times = times_of k (and_parts (lawful k) _ h).0 in omega arith
+first_near (k ∷ ks) (suc i) h = first_near ks i (and_parts (lawful k) _ h).1
 
 -- where each number is 0
 pub numbers_zero : (js : List NextJob) → ((i : ℕ) → (get_or js i no_job).number ≡ 0) → map (λ (j : NextJob). j.number) js ≡ replicate (length js) 0
