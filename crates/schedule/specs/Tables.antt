@@ -10,6 +10,7 @@
 --     clock_of b                   the instant that it has reached
 --     moment_of b ms               the moment of a schedule and the marks of a model
 --     row_of_switch t j m o        the row of a switch to job m of task j at instant t, where o is the delay or none
+--     row_of_job j m r f o         the row of job m of task j, released at instant r and finished at f, where o is its delay or none
 --     TaskReleased c t i x y       the release of task i alone at instant t leads from the moment x to the moment y
 --     Passed c t o x y rows        steps 3 to 5 at instant t lead from the moment x to the moment y where the choice is o, and write these rows
 --     Ticked c t x y rows          tick t leads from the moment x to the moment y and writes these rows
@@ -29,6 +30,7 @@ use Rattle.schedule.specs.Ticks.{charged, served, tick}
 use Rattle.schedule.specs.declared.calendar.Calendar.{Calendar}
 use Rattle.schedule.specs.declared.calendar.next_job.NextJob.{NextJob}
 use Rattle.schedule.specs.declared.jobs.JobTable.{JobTable}
+use Rattle.schedule.specs.declared.rows.JobRow.{JobRow}
 use Rattle.schedule.specs.declared.rows.SwitchRow.{SwitchRow}
 use Rattle.schedule.specs.declared.rows.TickRows.{TickRows}
 use Rattle.schedule.specs.declared.ticking.Schedule.{Schedule}
@@ -77,6 +79,11 @@ moment_of b ms = record { state = state_of b.jobs ms; next = next_in b.calendar;
 abbrev pub row_of_switch : ℕ → ℕ → ℕ → Option ℕ → Option SwitchRow
 row_of_switch t j m None = None
 row_of_switch t j m (Some d) = Some (record { instant = t; task = j; job = m; delay = d })
+
+-- Where no job has finished, none is.
+abbrev pub row_of_job : ℕ → ℕ → ℕ → ℕ → Option ℕ → Option JobRow
+row_of_job j m r f None = None
+row_of_job j m r f (Some d) = Some (record { task = j; job = m; release = r; finish = f; delay = d })
 
 -- Where its next job is not due, nothing changes.
 pub record TaskReleased (c : Setting) (t i : ℕ) (x y : Moment) : Type 0 where

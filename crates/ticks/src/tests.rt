@@ -26,8 +26,12 @@ fn do_ticks<P: Policy, M: DelayModel>(
 ) {
     for _ in 0..count {
         if let Some(rows) = schedule.tick(policy, model) {
-            let _ = rows.switch.map(|row| switches.push(row));
-            let _ = rows.job.map(|row| jobs.push(row));
+            if let Some(row) = rows.switch {
+                let _ = switches.push(row);
+            }
+            if let Some(row) = rows.job {
+                let _ = jobs.push(row);
+            }
         }
     }
 }

@@ -1,8 +1,8 @@
 //! What is written down at an instant.
 
-ghost use Rattle.std.specs.Prelude.{◌≡◌, ◌+◌, if◌then◌else◌, Some, None};
+ghost use Rattle.std.specs.Prelude.{◌≡◌, ◌+◌};
 ghost use Rattle.schedule.specs.Jobs.{live_job, release};
-ghost use Rattle.schedule.specs.Tables.{next_at, row_of_switch, task_in};
+ghost use Rattle.schedule.specs.Tables.{next_at, row_of_job, row_of_switch, task_in};
 
 use super::Calendar;
 use crate::rows::{JobRow, SwitchRow};
@@ -20,11 +20,11 @@ impl Calendar {
         })
     }
 
-    /// What is written down of the task's job, if it has finished with this tick.
-    pub(crate) fn job_row(&self, task: usize, finished: bool, delay: u64) -> Option<JobRow>
-        ensures { result ≡ (if finished then Some (record { task = task; job = live_job (next_at self.now task); release = release (task_in self.now task) (live_job (next_at self.now task)); finish = self.now.clock + 1; delay = delay }) else None) }
+    /// What is written down of the task's job, if it has finished with this tick and with this delay.
+    pub(crate) fn job_row(&self, task: usize, delay: Option<u64>) -> Option<JobRow>
+        ensures { result ≡ row_of_job task (live_job (next_at self.now task)) (release (task_in self.now task) (live_job (next_at self.now task))) (self.now.clock + 1) delay }
     {
-        finished.then(|| JobRow {
+        delay.map(|delay| JobRow {
             task,
             job: self.live_job(task),
             release: self.release(task),

@@ -1,8 +1,8 @@
 //! A table before the first tick, and what is released into it.
 
 ghost use Rattle.std.specs.Prelude.{◌≡◌, ◌<◌, true, false, replicate, None, slice_set};
-ghost use Rattle.schedule.specs.Jobs.{vacant};
 ghost use Rattle.schedule.specs.JobTables.{delays_in, slots_in};
+ghost use Rattle.schedule.specs.Jobs.{vacant};
 
 use super::{JobTable, LiveJob};
 use crate::slots::Slot;

@@ -1,8 +1,8 @@
 //! Steps 4 and 5 of a tick: the task that has the core spends it.
 
 ghost use Rattle.std.specs.Prelude.{◌≡◌, ◌+◌, ◌^◌, ◌<◌, [], if◌then◌else◌, Some, None, ◌==◌, slice_set};
-ghost use Rattle.schedule.specs.Rows.{finishes};
 ghost use Rattle.schedule.specs.JobTables.{delay_at, delays_in, slot_at, slots_in};
+ghost use Rattle.schedule.specs.Rows.{finishes};
 ghost use Rattle.schedule.specs.Tables.{state_of, unruled};
 ghost use Rattle.schedule.specs.Ticks.{delay_to, runs, served, settled, spent};
 
@@ -16,8 +16,8 @@ use plan::Task;
 pub(crate) struct Served {
     /// the delay answered at the switch, if it was one
     pub(crate) switch: Option<u16>,
-    /// the job got its last tick
-    pub(crate) finished: bool,
+    /// all delay that was answered to the job, if it got its last tick
+    pub(crate) finished: Option<u64>,
 }
 
 impl JobTable {
@@ -33,25 +33,23 @@ impl JobTable {
         job.slot.work();
     }
 
-    /// Ends the tick: where no work is left the job finishes, otherwise its task is the running one.
-    fn settle<M: DelayModel>(&mut self, model: &mut M, task: usize) -> bool
-        requires { task < 16 }
+    /// Ends the tick: where no work is left the job finishes, and the answer is its delay; otherwise its task is the running one.
+    fn settle<M: DelayModel>(&mut self, model: &mut M, task: usize) -> Option<u64>
         ensures same { M.DelayModel.profile model.new ≡ M.DelayModel.profile model.old }
         ensures state { state_of self.new (M.DelayModel.marks model.new) ≡ settled task (state_of self.old (M.DelayModel.marks model.old)) }
         ensures delays { delays_in self.new ≡ delays_in self.old }
-        ensures finished { result ≡ ((slot_at self.old task).left == 0) }
+        ensures finished { result ≡ (if (slot_at self.old task).left == 0 then Some (delay_at self.old task) else None) }
     {
         let job = self.job(task);
-        let finished = job.slot.left == 0;
-        if finished {
-            let slot = Slot::default();
-            self.put(task, LiveJob { slot, ..job });
-            model.finish(task);
-            self.running = None;
-        } else {
+        if job.slot.left > 0 {
             self.running = Some(task);
+            return None;
         }
-        finished
+        let slot = Slot::default();
+        self.put(task, LiveJob { slot, ..job });
+        model.finish(task);
+        self.running = None;
+        Some(job.delay)
     }
 
     /// A tick without a task on the core.
@@ -77,7 +75,7 @@ impl JobTable {
         ensures state { state_of self.new (M.DelayModel.marks model.new) ≡ served (unruled tasks.now (M.DelayModel.profile model.old)) (Some task) (state_of self.old (M.DelayModel.marks model.old)) }
         ensures delays { delays_in self.new ≡ slice_set (delays_in self.old) task (delay_at self.old task + delay_to (unruled tasks.now (M.DelayModel.profile model.old)) task (state_of self.old (M.DelayModel.marks model.old))) }
         ensures switch { result.switch ≡ (if runs self.old.running task then None else Some (delay_to (unruled tasks.now (M.DelayModel.profile model.old)) task (state_of self.old (M.DelayModel.marks model.old)))) }
-        ensures finished { result.finished ≡ finishes (unruled tasks.now (M.DelayModel.profile model.old)) task (state_of self.old (M.DelayModel.marks model.old)) }
+        ensures finished { result.finished ≡ (if finishes (unruled tasks.now (M.DelayModel.profile model.old)) task (state_of self.old (M.DelayModel.marks model.old)) then Some (delay_at self.new task) else None) }
     {
         let switch = self.switch_to(model, tasks, task);
         self.spend(model, task);

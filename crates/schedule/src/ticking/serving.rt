@@ -20,7 +20,7 @@ impl Schedule {
         let Schedule { calendar, jobs } = self;
         let served = jobs.serve(model, calendar.tasks(), task);
         let switch = calendar.switch_row(task, served.switch);
-        let job = calendar.job_row(task, served.finished, jobs.job(task).delay);
+        let job = calendar.job_row(task, served.finished);
         calendar.step();
         TickRows { switch, job }
     }
