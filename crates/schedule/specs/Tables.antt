@@ -9,6 +9,7 @@
 --     tasks_of b                   its tasks
 --     clock_of b                   the instant that it has reached
 --     moment_of b ms               the moment of a schedule and the marks of a model
+--     switch_delay c j s           the delay of the switch to task j, or none
 --     row_of_switch t j m o        the row of a switch to job m of task j at instant t, where o is the delay or none
 --     row_of_job j m r f o         the row of job m of task j, released at instant r and finished at f, where o is its delay or none
 --     TaskReleased c t i x y       the release of task i alone at instant t leads from the moment x to the moment y
@@ -26,7 +27,7 @@ use Rattle.schedule.specs.JobTables.{delays_in, slots_in}
 use Rattle.schedule.specs.Jobs.{counted, due, entered}
 use Rattle.schedule.specs.Rows.{job_row, job_row_of, switch_row, switch_row_of}
 use Rattle.schedule.specs.States.{Moment, Setting, State, next_of, slot_of, task_of}
-use Rattle.schedule.specs.Ticks.{charged, served, tick}
+use Rattle.schedule.specs.Ticks.{charged, delay_to, is_running, served, tick}
 use Rattle.schedule.specs.declared.calendar.Calendar.{Calendar}
 use Rattle.schedule.specs.declared.calendar.next_job.NextJob.{NextJob}
 use Rattle.schedule.specs.declared.jobs.JobTable.{JobTable}
@@ -74,6 +75,10 @@ clock_of b = b.calendar.clock
 -- The instant is the schedule's clock.
 abbrev pub moment_of : Schedule → List Mark → Moment
 moment_of b ms = record { state = state_of b.jobs ms; next = next_in b.calendar; delays = delays_in b.jobs }
+
+-- Where the task goes on running, there is no switch.
+abbrev pub switch_delay : Setting → ℕ → State → Option ℕ
+switch_delay c j s = cond {A = Option ℕ} (is_running s j) None (Some (delay_to c j s))
 
 -- Where there is no switch, no delay is told.
 abbrev pub row_of_switch : ℕ → ℕ → ℕ → Option ℕ → Option SwitchRow

@@ -3,8 +3,8 @@
 ghost use Rattle.std.specs.Prelude.{◌≡◌, ◌+◌, ◌^◌, ◌<◌, [], if◌then◌else◌, Some, None, ◌==◌, slice_set};
 ghost use Rattle.schedule.specs.JobTables.{delay_at, delays_in, slot_at, slots_in};
 ghost use Rattle.schedule.specs.Rows.{finishes};
-ghost use Rattle.schedule.specs.Tables.{state_of, unruled};
-ghost use Rattle.schedule.specs.Ticks.{delay_to, runs, served, settled, spent};
+ghost use Rattle.schedule.specs.Tables.{state_of, switch_delay, unruled};
+ghost use Rattle.schedule.specs.Ticks.{delay_to, served, settled, spent};
 
 use super::{JobTable, LiveJob};
 use crate::slots::Slot;
@@ -74,7 +74,7 @@ impl JobTable {
         ensures same { M.DelayModel.profile model.new ≡ M.DelayModel.profile model.old }
         ensures state { state_of self.new (M.DelayModel.marks model.new) ≡ served (unruled tasks.now (M.DelayModel.profile model.old)) (Some task) (state_of self.old (M.DelayModel.marks model.old)) }
         ensures delays { delays_in self.new ≡ slice_set (delays_in self.old) task (delay_at self.old task + delay_to (unruled tasks.now (M.DelayModel.profile model.old)) task (state_of self.old (M.DelayModel.marks model.old))) }
-        ensures switch { result.switch ≡ (if runs self.old.running task then None else Some (delay_to (unruled tasks.now (M.DelayModel.profile model.old)) task (state_of self.old (M.DelayModel.marks model.old)))) }
+        ensures switch { result.switch ≡ switch_delay (unruled tasks.now (M.DelayModel.profile model.old)) task (state_of self.old (M.DelayModel.marks model.old)) }
         ensures finished { result.finished ≡ (if finishes (unruled tasks.now (M.DelayModel.profile model.old)) task (state_of self.old (M.DelayModel.marks model.old)) then Some (delay_at self.new task) else None) }
     {
         let switch = self.switch_to(model, tasks, task);

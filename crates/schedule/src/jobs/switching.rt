@@ -1,9 +1,9 @@
 //! Step 3 of a tick: the chosen task gets the core.
 
-ghost use Rattle.std.specs.Prelude.{◌≡◌, ◌+◌, ◌^◌, ◌<◌, [], if◌then◌else◌, Some, None, slice_set};
+ghost use Rattle.std.specs.Prelude.{◌≡◌, ◌+◌, ◌^◌, ◌<◌, [], slice_set};
 ghost use Rattle.schedule.specs.JobTables.{delay_at, delays_in, slot_at};
-ghost use Rattle.schedule.specs.Tables.{state_of, unruled};
-ghost use Rattle.schedule.specs.Ticks.{delay_to, loses, lost, runs, switched};
+ghost use Rattle.schedule.specs.Tables.{state_of, switch_delay, unruled};
+ghost use Rattle.schedule.specs.Ticks.{delay_to, loses, lost, switched};
 
 use super::JobTable;
 use delay::DelayModel;
@@ -44,7 +44,7 @@ impl JobTable {
         ensures same { M.DelayModel.profile model.new ≡ M.DelayModel.profile model.old }
         ensures state { state_of self.new (M.DelayModel.marks model.new) ≡ switched (unruled tasks.now (M.DelayModel.profile model.old)) task (state_of self.old (M.DelayModel.marks model.old)) }
         ensures delays { delays_in self.new ≡ slice_set (delays_in self.old) task (delay_at self.old task + delay_to (unruled tasks.now (M.DelayModel.profile model.old)) task (state_of self.old (M.DelayModel.marks model.old))) }
-        ensures switch { result ≡ (if runs self.old.running task then None else Some (delay_to (unruled tasks.now (M.DelayModel.profile model.old)) task (state_of self.old (M.DelayModel.marks model.old)))) }
+        ensures switch { result ≡ switch_delay (unruled tasks.now (M.DelayModel.profile model.old)) task (state_of self.old (M.DelayModel.marks model.old)) }
     {
         if self.is_running(task) {
             return None;
