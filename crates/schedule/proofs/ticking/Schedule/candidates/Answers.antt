@@ -26,4 +26,4 @@ returns-clause-value c =
     let kept = c.loop-task.invariant in
     let all : c.loop-task.task ≡ 16 = omega (arith, kept.sized) in
     let whole : c.loop-task.row-items ≡ map row (range_with_len 0 16) = sym (take_all 16 c.loop-task.row-items (omega (arith, kept.sized))) ∙ rw all at kept.filled in
-    ap (take (length (tasks_of self))) whole ∙ take-map-range_with_len row 0 16 (length (tasks_of self)) (omega (arith, length-take plan.count plan.tasks, plan.sized))
+    ap (take (length (tasks_of self))) whole ∙ take-map-range_with_len row 0 16 (length (tasks_of self)) (omega (arith, length-take plan.head.count plan.tasks, plan.sized))
