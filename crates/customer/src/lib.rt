@@ -4,6 +4,7 @@
 
 mod favourite;
 mod flat_cost;
+mod opened;
 
 pub use favourite::Favourite;
 

@@ -2,7 +2,8 @@
 
 use crate::favourite::Favourite;
 use crate::flat_cost::FlatCost;
-use delay::{DelayModel, FixedDelay, LoadedBlocks, MarkModel, NoDelay, UsefulBlocks};
+use crate::opened::{open_fixed_delay, open_loaded_blocks, open_no_delay, open_useful_blocks};
+use delay::{DelayModel, MarkModel};
 use dispatch::{Candidate, EarliestDeadline, FixedPriority, NonPreemptive, Policy};
 use plan::admit;
 use std::test::Fail;
@@ -120,7 +121,7 @@ const LINE_1: u64 = 0x4000_0000_0000_0000;
 #[test]
 fn loaded_blocks_pay_for_what_was_loaded(rt: HostRuntime) -> Result<(), Fail> {
     let plan = admit(&TWO_SETS)?;
-    let mut model = LoadedBlocks::new(&plan);
+    let mut model = open_loaded_blocks(&plan);
     model.begin(0);
     for _ in 0..5 {
         model.spend(0);
@@ -142,7 +143,7 @@ fn loaded_blocks_pay_for_what_was_loaded(rt: HostRuntime) -> Result<(), Fail> {
 #[test]
 fn losses_add_up_until_the_resume(rt: HostRuntime) -> Result<(), Fail> {
     let plan = admit(&TWO_SETS)?;
-    let mut model = UsefulBlocks::new(&plan);
+    let mut model = open_useful_blocks(&plan);
     model.begin(0);
     model.lose(0, 1);
     assert_eq!(rt; mark_of(&model, 0), (LINE_1, 0));
@@ -159,7 +160,7 @@ fn losses_add_up_until_the_resume(rt: HostRuntime) -> Result<(), Fail> {
 #[test]
 fn a_fixed_delay_is_paid_once(rt: HostRuntime) -> Result<(), Fail> {
     let plan = admit(&TWO_SETS)?;
-    let mut model = FixedDelay::new(&plan);
+    let mut model = open_fixed_delay(&plan);
     assert_eq!(rt; model.resume(0), 0);
     model.lose(0, 1);
     model.lose(0, 1);
@@ -176,11 +177,11 @@ fn a_fixed_delay_is_paid_once(rt: HostRuntime) -> Result<(), Fail> {
 #[test]
 fn numbers_above_15_change_nothing(rt: HostRuntime) -> Result<(), Fail> {
     let plan = admit(&TWO_SETS)?;
-    let mut none = NoDelay::new(&plan);
+    let mut none = open_no_delay(&plan);
     none.begin(16);
     none.lose(0, 1);
     assert_eq!(rt; none.resume(0), 0);
-    let mut model = LoadedBlocks::new(&plan);
+    let mut model = open_loaded_blocks(&plan);
     model.begin(16);
     model.spend(16);
     model.lose(16, 1);
