@@ -22,6 +22,3 @@ delays_kept js i s = map-set_same (λ (j : LiveJob). j.delay) js i (record { slo
 
 pub slot_read : (js : List LiveJob) (i : ℕ) → get_or (map (λ (j : LiveJob). j.slot) js) i vacant ≡ (get_or js i none_live).slot
 slot_read js i = get_or-map (λ (j : LiveJob). j.slot) js i none_live
-
-pub delay_read : (js : List LiveJob) (i : ℕ) → get_or (map (λ (j : LiveJob). j.delay) js) i 0 ≡ (get_or js i none_live).delay
-delay_read js i = get_or-map (λ (j : LiveJob). j.delay) js i none_live
