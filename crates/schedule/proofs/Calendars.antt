@@ -18,13 +18,6 @@ one_counted k n r t p d period deadline release_is now =
     let end : t + d ≡ deadline_at k n = omega arith in
     λ i. record { number = n + 1; release = later i; deadline = (end ∙ ap (deadline_at k) live) i }
 
--- a job's number is at most the instant of its release
-pub number_small : (ks : List Task) (j n t : ℕ) → all_of lawful ks ≡ true → j < length ks → t ≡ release (get_or ks j zero_task) n → n ≤ t
-number_small ks j n t h l e =
-    let k = times_at ks j zero_task h l in
-    let one : 1 ≤ (get_or ks j zero_task).period = omega arith in
-    omega (arith, mul-le-mul_left n one)
-
 -- the deadline of job 0
 pub first_near : (ks : List Task) (i : ℕ) → all_of lawful ks ≡ true → (next_job (get_or ks i zero_task) 0).deadline ≤ 2097152
 first_near [] i h = omega arith
