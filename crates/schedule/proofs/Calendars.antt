@@ -1,9 +1,9 @@
 -- The instants that the calendar keeps, as a job is counted.
-use Rattle.std.proofs.Common.{◌≡◌, ℕ, ◌+◌, ◌<◌, ◌≤◌, zero, suc, true, List, [], ◌∷◌, map, replicate, length, get_or, refl, ap, ◌∙◌, arith, mul-le-mul_left}
+use Rattle.std.proofs.Common.{◌≡◌, ℕ, ◌+◌, ◌≤◌, zero, suc, true, List, [], ◌∷◌, map, replicate, length, get_or, refl, ap, ◌∙◌, arith}
 use Rattle.std.proofs.Math.ListN.{get_or-map}
 use Rattle.std.proofs.lemmas.Bool.{and_parts}
 use Rattle.delay.specs.Figures.{zero_task}
-use Rattle.plan.proofs.TaskTimes.{times_at, times_of}
+use Rattle.plan.proofs.TaskTimes.{times_of}
 use Rattle.plan.specs.Tasks.{all_of, lawful}
 use Rattle.plan.specs.declared.tasks.Task.{Task}
 use Rattle.schedule.specs.Calendars.{next_job, no_job}

@@ -7,3 +7,4 @@ pub mod Rows
 pub mod Schedules
 pub mod JobTables
 pub mod Tables
+pub mod SlotLaws

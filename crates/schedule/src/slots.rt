@@ -1,6 +1,6 @@
 //! The live job of a task.
 
-ghost use Rattle.std.specs.Prelude.{◌≡◌, ◌↔◌, IsTrue};
+ghost use Rattle.std.specs.Prelude.{◌≡◌};
 ghost use Rattle.schedule.specs.Ticks.{worked};
 
 /// What is known of a task's live job. Where no job is live, all is zero.
@@ -27,11 +27,4 @@ impl Slot {
             self.left = self.left.saturating_sub(1);
         }
     }
-}
-
-/// What the derived `==` promises: equal slots are the same slot.
-fn is_same(slot: &Slot, other: &Slot) -> bool
-    ensures { IsTrue result ↔ (slot.now ≡ other.now) }
-{
-    slot == other
 }
