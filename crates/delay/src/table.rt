@@ -38,6 +38,7 @@ impl MarkTable {
             self.marks[task] = mark;
         }
     }
+
     /// Puts a set in the place of the lines that a task's mark keeps, and leaves its credit.
     pub fn keep(&mut self, task: usize, kept: CacheBlocks)
         ensures { self.new.marks ≡ changed self.old.marks task (keeping kept.lines) }
