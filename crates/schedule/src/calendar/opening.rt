@@ -7,6 +7,7 @@ ghost use Rattle.schedule.specs.Tables.{next_in};
 
 use super::{Calendar, NextJob};
 use plan::{MOST_TASKS, Plan, Task};
+use std::array;
 
 impl Calendar {
     /// Job 0 of each task comes next.
@@ -30,9 +31,12 @@ fn first_jobs(tasks: &[Task]) -> [NextJob; MOST_TASKS]
     ensures size { length result ≡ 16 }
     ensures value { (i : ℕ) → slice_index_or result i no_job ≡ next_job (slice_index_or tasks.now i zero_task) 0 }
 {
-    let mut jobs = [NextJob::default(); MOST_TASKS];
-    for (i, task) in tasks.iter().enumerate() {
-        jobs[i] = NextJob::first(task);
-    }
-    jobs
+    array::from_fn(|task| first_job(tasks, task))
+}
+
+/// Job 0 of a task, or of the task of zeros past the last one.
+fn first_job(tasks: &[Task], task: usize) -> NextJob
+    ensures { result ≡ next_job (slice_index_or tasks.now task zero_task) 0 }
+{
+    NextJob::first(&tasks.get(task).copied().unwrap_or_default())
 }

@@ -2,7 +2,8 @@ use Rattle.std.proofs.Common.{◌≡◌, rules}
 use Rattle.std.specs.Option.{option_map_or}
 use Rattle.std.specs.Prelude.{slice_get}
 use Rattle.plan.specs.Plans.{tasks_in}
-use Rattle.dispatch.proofs.Tables.{made_at, table_is}
+use Rattle.dispatch.proofs.Made.{made_at}
+use Rattle.dispatch.proofs.Tables.{table_is}
 use Rattle.dispatch.proofs.fixed_priority.FixedPriority.new.Goals as goal
 
 pub returns : goal.returns
