@@ -1,7 +1,6 @@
 -- What is in a list after one thing was done to each of its first elements.
-use Rattle.std.proofs.Common.{◌≡◌, ℕ, zero, suc, ◌+◌, ◌<◌, ◌≤◌, ◌≢◌, List, [], ◌∷◌, ◌++◌, map, length, get_or, take, set, sym, refl, ap, ◌∙◌, ⊎_elim, eq-or-lt_of_le, add-one, arith}
-use Rattle.std.proofs.lemmas.List.FromFn.{map-range_with_len_more}
-use Rattle.std.proofs.lemmas.List.{get_or-set_other, get_or-set_same, length-set, take_more_set}
+use Rattle.std.proofs.Common.{◌≡◌, ℕ, zero, suc, ◌+◌, ◌<◌, ◌≤◌, ◌≢◌, List, ◌∷◌, map, length, get_or, set, refl, ap, ◌∙◌, ⊎_elim, eq-or-lt_of_le, add-one, arith}
+use Rattle.std.proofs.lemmas.List.{get_or-set_other, get_or-set_same, length-set}
 use Rattle.std.specs.List.{range_with_len}
 use Rattle.schedule.specs.Each.{each}
 
@@ -51,10 +50,3 @@ counted_same f g a zero h = refl
 counted_same {X} f g a (suc n) h =
     ap (λ (y : X). y ∷ map f (range_with_len (a + 1) n)) (h a (omega arith) (omega arith))
     ∙ ap (λ ys. g a ∷ ys) (counted_same f g (a + 1) n (λ i l m. h i (omega arith) (omega arith)))
-
--- such a list, filled in place by one element more
-pub filled_more : {X : Type 0} (f : ℕ → X) (xs : List X) (n : ℕ) (x : X) → n < length xs → take n xs ≡ map f (range_with_len 0 n) → x ≡ f n → take (n + 1) (set xs n x) ≡ map f (range_with_len 0 (n + 1))
-filled_more {X} f xs n x l h e =
-    take_more_set xs n x l
-    ∙ (ap (λ (ys : List X). ys ++ (x ∷ [])) h
-    ∙ (ap (λ (y : X). map f (range_with_len 0 n) ++ (y ∷ [])) e ∙ sym (map-range_with_len_more f 0 n n (omega arith))))

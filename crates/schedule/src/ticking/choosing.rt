@@ -9,6 +9,7 @@ ghost use Rattle.schedule.specs.Ticks.{candidates};
 use super::Schedule;
 use dispatch::{Candidate, Policy};
 use plan::MOST_TASKS;
+use std::array;
 
 impl Schedule {
     /// One task, as a policy sees it.
@@ -35,11 +36,7 @@ impl Schedule {
         ensures size { length result ≡ 16 }
         ensures value { take (length (tasks_of self.now)) result ≡ candidates (timed (tasks_of self.now)) (clock_of self.now) (moment_of self.now []) }
     {
-        let mut rows = [Candidate::default(); MOST_TASKS];
-        for (task, row) in rows.iter_mut().enumerate() {
-            *row = self.candidate(task);
-        }
-        rows
+        array::from_fn(|task| self.candidate(task))
     }
 
     /// The task that the policy names, or nothing for idle.
