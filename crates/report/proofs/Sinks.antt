@@ -5,32 +5,32 @@ use Rattle.std.specs.Option.{is_some}
 use Rattle.std.proofs.lemmas.Option.{none-some}
 use Rattle.report.specs.declared.sink.lent.Lent.{Lent}
 use Rattle.report.specs.declared.sink.room.Room.{Room}
-use Rattle.report.specs.Sinks.{TookAll, Leaves, Measured, Wrote}
+use Rattle.report.specs.Sinks.{TookAll, TakenOff, Measured, Wrote}
 use Rattle.report.specs.Sinks.TookAll.{nothing, further}
 use Rattle.report.proofs.Puts.{put_none, put_then}
 
-leaves_nothing : (room : Option ℕ) → Leaves room [] room
-leaves_nothing None = refl
-leaves_nothing (Some n) = omega arith
+off_nothing : (room : Option ℕ) → TakenOff room [] room
+off_nothing None = refl
+off_nothing (Some n) = omega arith
 
-leaves_then : (room mid left : Option ℕ) (a b : List ℕ) → Leaves room a mid → Leaves mid b left → Leaves room (a ++ b) left
-leaves_then None None left a b p q = q
-leaves_then None (Some m) left a b p q = absurd (none-some m (sym p))
-leaves_then (Some n) None None a b p q = omega (arith, length-append a b, p)
-leaves_then (Some n) None (Some l) a b p q = absurd (none-some l (sym q))
-leaves_then (Some n) (Some m) None a b p q = omega (arith, length-append a b, p, q)
-leaves_then (Some n) (Some m) (Some l) a b p q = omega (arith, length-append a b, p, q)
+off_then : (room mid left : Option ℕ) (a b : List ℕ) → TakenOff room a mid → TakenOff mid b left → TakenOff room (a ++ b) left
+off_then None None left a b p q = q
+off_then None (Some m) left a b p q = absurd (none-some m (sym p))
+off_then (Some n) None None a b p q = omega (arith, length-append a b, p)
+off_then (Some n) None (Some l) a b p q = absurd (none-some l (sym q))
+off_then (Some n) (Some m) None a b p q = omega (arith, length-append a b, p, q)
+off_then (Some n) (Some m) (Some l) a b p q = omega (arith, length-append a b, p, q)
 
 -- a text is measured as one piece would be
 pub measured_all : {text : List ℕ} {before after : Room} → TookAll Measured before text after → Measured before text after
-measured_all {before = s} nothing = leaves_nothing s.left
-measured_all {before = s} {after = u} (further {t = t} {text = a} {piece = b} p q) = leaves_then s.left t.left u.left a b (measured_all p) q
+measured_all {before = s} nothing = off_nothing s.left
+measured_all {before = s} {after = u} (further {t = t} {text = a} {piece = b} p q) = off_then s.left t.left u.left a b (measured_all p) q
 
 -- the text fits where something is left of the room, be it nothing more than 0
-pub leaves_fits : (room most : ℕ) (text : List ℕ) (left : Option ℕ) → Leaves (Some room) text left → length text ≤ most
+pub off_fits : (room most : ℕ) (text : List ℕ) (left : Option ℕ) → TakenOff (Some room) text left → length text ≤ most
     → MatchBool (is_some left) (length text ≤ room) ((room < length text) × (room < most))
-leaves_fits room most text None h k = (h, omega arith)
-leaves_fits room most text (Some n) h k = omega arith
+off_fits room most text None h k = (h, omega arith)
+off_fits room most text (Some n) h k = omega arith
 
 -- a text is written as one piece would be
 pub wrote_all : {text : List ℕ} {before after : Lent} → TookAll Wrote before text after → Wrote before text after

@@ -1,7 +1,7 @@
 -- What takes a text piece by piece. Assumes nothing.
 --     TookAll took before text after      the sink took the text, in some number of pieces
 --     Takes took most text before after   it did, and the text has at most `most` bytes
---     Leaves room piece left              what is left of a room after the piece, None where it does not fit
+--     TakenOff room piece left              what is left of a room after the piece, None where it does not fit
 --     Measured before piece after         the piece was taken off the room
 --     Wrote before piece after            the piece was put at the place of the lent buffer
 use Rattle.std.specs.Prelude.{◌≡◌, ℕ, ◌+◌, ◌<◌, ◌≤◌, List, [], ◌++◌, length, None, Some, Option}
@@ -21,12 +21,13 @@ pub record Takes {S : Type 0} (took : S → List ℕ → S → Type 0) (most : �
   pub short : length text ≤ most
 
 -- The length is taken off the room, so that no sum of lengths is ever made. Once something did not fit, nothing does.
-abbrev pub Leaves : Option ℕ → List ℕ → Option ℕ → Type 0
-Leaves None piece after = after ≡ None
-Leaves (Some room) piece after = MatchOption after (room < length piece) (λ left. left + length piece ≡ room)
+abbrev pub TakenOff : Option ℕ → List ℕ → Option ℕ → Type 0
+TakenOff None piece after = after ≡ None
+TakenOff (Some room) piece after = MatchOption after (room < length piece) (λ left. left + length piece ≡ room)
 
+-- A room takes a piece by growing smaller.
 abbrev pub Measured : Room → List ℕ → Room → Type 0
-Measured before piece after = Leaves before.left piece after.left
+Measured before piece after = TakenOff before.left piece after.left
 
 -- Only a piece that fits is put. The buffer is still the one that was lent.
 pub record Wrote (before : Lent) (piece : List ℕ) (after : Lent) : Type 0 where

@@ -10,6 +10,8 @@ pub(crate) mod lent;
 pub(crate) mod room;
 
 /// Takes a text piece by piece.
+// Not `fmt::Write`: that promises what was written where it succeeds, and never that it does,
+// so no text written by it could be refused only where it does not fit.
 pub(crate) trait Sink {
     // relates the sink before, the piece that it takes, and the sink after
     ghost took: { Self → List ℕ → Self → Type 0 };

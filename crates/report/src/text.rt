@@ -1,9 +1,9 @@
 //! The text of a report, written as a whole or not at all.
 
 ghost use Rattle.std.specs.Prelude.{◌≡◌, ◌<◌, ◌≤◌, length, MatchBool};
-ghost use Rattle.report.specs.Buffers.{Whole, Written, buffer_too_short};
+ghost use Rattle.report.specs.Buffers.{Whole, Written};
 ghost use Rattle.report.specs.Sinks.{Takes};
-ghost use Rattle.report.specs.Texts.{most_of, spelled};
+ghost use Rattle.report.specs.Texts.{most_of, whole_text};
 
 use crate::line::put_line;
 use crate::sink::Sink;
@@ -23,7 +23,7 @@ pub(crate) struct Text<'a> {
 
 impl Text<'_> {
     fn put<S: Sink>(&self, sink: &mut S)
-        ensures { Takes S.took (most_of self.now) (spelled self.now) sink.old sink.new }
+        ensures { Takes S.took (most_of self.now) (whole_text self.now) sink.old sink.new }
     {
         put_line(sink, self.first, self.words);
         put_tasks(sink, self.tasks);
@@ -31,8 +31,8 @@ impl Text<'_> {
 
     fn fits(&self, room: usize) -> bool
         ensures { MatchBool result
-            (length (spelled self.now) ≤ room)
-            ((room < length (spelled self.now)) × (room < most_of self.now)) }
+            (length (whole_text self.now) ≤ room)
+            ((room < length (whole_text self.now)) × (room < most_of self.now)) }
     {
         let mut room = Room { left: Some(room) };
         self.put(&mut room);
@@ -40,8 +40,8 @@ impl Text<'_> {
     }
 
     fn fill(&self, out: &mut [u8]) -> usize
-        requires { length (spelled self.now) ≤ length out.old }
-        ensures { Whole (spelled self.now) out.old out.new result }
+        requires { length (whole_text self.now) ≤ length out.old }
+        ensures { Whole (whole_text self.now) out.old out.new result }
     {
         let mut lent = Lent { out, at: 0 };
         self.put(&mut lent);
@@ -50,18 +50,12 @@ impl Text<'_> {
 
     /// Writes the text and answers its length. It is measured first, so that a buffer that is too short is left as it was.
     pub(crate) fn write(&self, out: &mut [u8]) -> Result<usize, Fault>
-        ensures { Written (most_of self.now) (spelled self.now) out.old out.new result }
+        ensures { Written (most_of self.now) (whole_text self.now) out.old out.new result }
     {
         if self.fits(out.len()) {
             Ok(self.fill(out))
         } else {
-            Err(buffer_too_short())
+            Err(Fault::new(Layer::Run, Cause::BufferTooShort))
         }
     }
-}
-
-fn buffer_too_short() -> Fault
-    ensures { result ≡ buffer_too_short }
-{
-    Fault::new(Layer::Run, Cause::BufferTooShort)
 }

@@ -19,11 +19,9 @@ pub const LONGEST_REPORT: usize = 1428;
 pub fn whole_report<'a>(input: &[u8], out: &'a mut [u8; LONGEST_REPORT]) -> &'a [u8]
     ensures { result.now ≡ report_text input.now }
 {
-    match report_on(input, out) {
-        Ok(length) => &out[..length],
-        // only a buffer that is too short is refused
-        Err(_) => unreachable(),
-    }
+    // only a buffer that is too short is refused
+    let length = report_on(input, out).unwrap();
+    &out[..length]
 }
 
 /// Writes the report of an input, and answers its length. A buffer that is too short for it is left as it was.
