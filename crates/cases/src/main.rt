@@ -10,7 +10,7 @@ use report::{LONGEST_REPORT, whole_report};
 use std::alloc::{AllocError, Global};
 use std::io::{BufRead, BufReader, Write};
 
-/// The value of a hexadecimal digit.
+/// The value of a hexadecimal digit. Not `to_digit`, which takes capital letters too.
 fn digit(letter: u8) -> Option<u8>
     ensures { IfSome result (λ d. d < 16) }
 {

@@ -47,6 +47,7 @@ pub struct Fault {
 
 impl Layer {
     /// The letter that stands for this layer in a report.
+    // no `From<Layer> for u8`: that would not say that the number is a letter
     pub fn letter(self) -> u8
         ensures { result ≡ letter_of self }
     {

@@ -2,10 +2,10 @@
 
 #![tactic(auto)]
 
-mod letters;
-
 ghost use Rattle.std.specs.Prelude.{◌≡◌, ◌*◌, drop, Ok, Err, IfErr, IfOk, IfSome, IsSomeAnd, MatchResult};
 ghost use Rattle.order.specs.Orders.{letter_at, unknown_letter, order_of};
+
+mod letters;
 
 use fault::{Cause, Fault, Layer};
 use letters::LineEnd;

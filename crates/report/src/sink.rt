@@ -31,7 +31,8 @@ impl Sink for Room {
 impl Sink for Lent<'_> {
     ghost took = { Wrote };
 
-    // A piece that does not fit is left out, so that every call is allowed.
+    // A piece that does not fit is left out, so that every call is allowed. By index: of a slice
+    // that was lent by `get_mut`, a proof knows no element afterwards.
     fn put(&mut self, piece: &[u8]) {
         let end = self.at + piece.len();
         if end <= self.out.len() {

@@ -22,6 +22,7 @@ impl<'a, T: Copy> Log<'a, T> {
         ensures room { room self.new ≡ room self.old }
         ensures lender { lender self.new ≡ lender self.old }
     {
+        // by index: of a slice that was lent by `get_mut`, a proof knows no element afterwards
         if self.used < self.rows.len() {
             self.rows[self.used] = row;
             self.used += 1;
