@@ -1,9 +1,11 @@
 -- The laws of a layout, over its list of widths: where fields lie in a part of the bytes, and that the fields determine the bytes.
-use Rattle.std.proofs.Common.{◌≡◌, ℕ, zero, suc, ◌+◌, ◌*◌, ◌/◌, ◌%◌, ◌^◌, ◌<◌, ◌≤◌, List, [], ◌∷◌, ◌++◌, length, take, drop, sym, refl, ap, ◌∙◌, ap₂, pow-suc, arith}
+use Rattle.std.proofs.Common.{◌≡◌, ℕ, zero, suc, ◌+◌, ◌-◌, ◌*◌, ◌/◌, ◌%◌, ◌^◌, ◌<◌, ◌≤◌, List, [], ◌∷◌, ◌++◌, length, take, drop, sym, refl, ap, ◌∙◌, ap₂, pow-suc, arith}
 use borrow.Rule.Slice.PartMut.{put_mid, post_of}
+use Rattle.std.specs.List.{AllZip}
 use Rattle.std.proofs.lemmas.Nat.{div-mul-add, mod-mul-add}
 use Rattle.std.proofs.lemmas.List.{drop_at, get_or_append_left, get_or-drop, get_or-take, length-take-le}
 use Rattle.std.proofs.lemmas.List.Elements.{All-head, All-tail}
+use Rattle.std.proofs.lemmas.Slice.{drop-put_mid}
 use Rattle.bits.specs.Bits.{bit, spelled}
 use Rattle.bits.specs.Layouts.{total, fields_at, Bytes}
 use Rattle.bits.proofs.Fields.{spelled_below_power, spelled_in_byte, spelled_same}
@@ -52,13 +54,39 @@ spelled_in_mid a k xs ys p at w e h l =
     let front = spelled_append ys (post_of a k xs) at w l in
     cc
 
--- a whole layout, in the bytes that were written anew
+-- before those k bytes
+pub spelled_before_mid : (a k : ℕ) (xs ys : List ℕ) (at w : ℕ) → a ≤ length xs → at + w ≤ 8 * a → spelled (put_mid a k xs ys) at w ≡ spelled xs at w
+spelled_before_mid a k xs ys at w h l =
+    let front = length-take-le a xs h in
+    spelled_append (take a xs) (ys ++ post_of a k xs) at w (omega arith) ∙ spelled_front xs a at w l
+
+-- behind them
+pub spelled_behind_mid : (a k : ℕ) (xs ys : List ℕ) (at w : ℕ) → a ≤ length xs → length ys ≡ k → 8 * (a + k) ≤ at → spelled (put_mid a k xs ys) at w ≡ spelled xs at w
+spelled_behind_mid a k xs ys at w h e l =
+    let place : 8 * (a + k) + (at - 8 * (a + k)) ≡ at = omega arith in
+    let rest : drop (a + k) (put_mid a k xs ys) ≡ drop (a + k) xs = drop-put_mid a k xs ys (a + k) (omega arith) h e in
+    let new = spelled_part (put_mid a k xs ys) (a + k) (at - 8 * (a + k)) w in
+    let old = spelled_part xs (a + k) (at - 8 * (a + k)) w in
+    cc
+
+-- a whole layout, before what was appended
+pub fields_at_front : (xs ys : List ℕ) (at : ℕ) (ws : List ℕ) → at + total ws ≤ 8 * length xs → fields_at (xs ++ ys) at ws ≡ fields_at xs at ws
+fields_at_front xs ys at [] h = refl
+fields_at_front xs ys at (w ∷ ws) h =
+    ap₂ (λ (v : ℕ) (vs : List ℕ). v ∷ vs) (spelled_append xs ys at w (omega arith)) (fields_at_front xs ys (at + w) ws (omega arith))
+
+-- and in the bytes that were written anew
 pub fields_at_in_mid : (a k : ℕ) (xs ys : List ℕ) (p at : ℕ) (ws : List ℕ) → p ≡ 8 * a + at → a ≤ length xs → at + total ws ≤ 8 * length ys → fields_at (put_mid a k xs ys) p ws ≡ fields_at ys at ws
 fields_at_in_mid a k xs ys p at [] e h l = refl
 fields_at_in_mid a k xs ys p at (w ∷ ws) e h l =
     ap₂ (λ (v : ℕ) (vs : List ℕ). v ∷ vs) (spelled_in_mid a k xs ys p at w e h (omega arith)) (fields_at_in_mid a k xs ys (p + w) (at + w) ws (omega arith) h (omega arith))
 
 -- ---- What the fields say of the bytes.
+
+-- Each field is as small as its width says.
+pub fields_below : (bs : List ℕ) (at : ℕ) (ws : List ℕ) → AllZip (λ v w. v < 2 ^ w) (fields_at bs at ws) ws
+fields_below bs at [] = tt
+fields_below bs at (w ∷ ws) = (spelled_below_power bs at w, fields_below bs (at + w) ws)
 
 -- Equal fields spell one number together.
 pub same_spelled_from_fields : (cs bs : List ℕ) (at : ℕ) (ws : List ℕ) → fields_at cs at ws ≡ fields_at bs at ws → spelled cs at (total ws) ≡ spelled bs at (total ws)
@@ -98,6 +126,13 @@ same_bytes (x ∷ xs) (y ∷ ys) p q e h =
     let first : x ≡ y = sym (div-mul-add x (2 ^ n) _ left) ∙ ap (λ (z : ℕ). z / 2 ^ n) both ∙ div-mul-add y (2 ^ n) _ right in
     let rest : spelled xs 0 n ≡ spelled ys 0 n = sym (mod-mul-add x (2 ^ n) _ left) ∙ ap (λ (z : ℕ). z % 2 ^ n) both ∙ mod-mul-add y (2 ^ n) _ right in
     ap₂ (λ (v : ℕ) (vs : List ℕ). v ∷ vs) first (same_bytes xs ys pxs qys (omega arith) rest)
+
+-- A byte string is determined by the fields of any layout that takes all its bits: an encoding is unique.
+pub fields_determine : (cs bs ws : List ℕ) (n : ℕ) → Bytes cs → Bytes bs → length cs ≡ n → length bs ≡ n → total ws ≡ 8 * n
+    → fields_at cs 0 ws ≡ fields_at bs 0 ws → cs ≡ bs
+fields_determine cs bs ws n p q d e t h =
+    let all : total ws ≡ 8 * length cs = omega arith in
+    same_bytes cs bs p q (omega arith) (rw (← all) (same_spelled_from_fields cs bs 0 ws h))
 
 -- ---- A layout in another byte string.
 
