@@ -34,8 +34,8 @@ impl<'a> BitReader<'a> {
             return None;
         }
         let mut value: u64 = 0;
-        for i in 0..width {
-            value = (value << 1) | u64::from(bit_at(self.bytes, self.place + u128::from(i)));
+        for at in self.place..end {
+            value = (value << 1) | u64::from(bit_at(self.bytes, at));
         }
         self.place = end;
         Some(value)
