@@ -14,9 +14,6 @@ use Rattle.plan.proofs.FirstWrong.{both_passed, none_left, unless_ok}
 use Rattle.plan.proofs.RowsLaws.{rows_split}
 use Rattle.plan.specs.Layout.{body, count_of, head_spare_of, head_values, head_widths, reload_of, revision_of, row_bytes, row_of, row_values, row_widths, rows_of, spare_of, task_of}
 
-pub row_fields : (r : List ℕ) → fields_at r 0 row_widths ≡ row_values (task_of r) (spare_of r)
-row_fields r = refl
-
 -- a task by the values of its row
 task_from : List ℕ → Task
 task_from vs = record {

@@ -17,10 +17,10 @@ pub const MOST_TASKS: usize = 16;
 /// What an admitted plan says, with the greatest offset and the hyperperiod of its tasks.
 #[derive(Clone, Copy)]
 pub struct Plan {
-    pub(crate) head: Head,
-    pub(crate) tasks: [Task; MOST_TASKS],
-    pub(crate) greatest_offset: u32,
-    pub(crate) hyperperiod: Hyperperiod,
+    head: Head,
+    tasks: [Task; MOST_TASKS],
+    greatest_offset: u32,
+    hyperperiod: Hyperperiod,
     ghost sized: { length tasks ≡ 16 },
     ghost keeping: { all_of lawful (take head.count tasks) ≡ true },
     ghost farthest: { greatest_offset ≡ greatest (offsets (take head.count tasks)) },

@@ -4,6 +4,9 @@ ghost use Rattle.std.specs.Prelude.{◌<◌, ◌≤◌};
 
 pub(crate) mod reading;
 
+/// The bytes of a head.
+pub const HEAD_BYTES: usize = 2;
+
 /// The one revision of plans.
 pub const REVISION: u8 = 1;
 

@@ -31,13 +31,22 @@ impl Hyperperiod {
         if period == 0 {
             return None;
         }
-        let period = u64::from(period);
-        let ticks = self.ticks / gcd(self.ticks, period) * period;
+        let ticks = self.lcm(period);
         if ticks > LIMIT {
             None
         } else {
             Some(Hyperperiod { ticks })
         }
+    }
+
+    /// The least common multiple of its length and a period.
+    fn lcm(self, period: u32) -> u64
+        requires { 0 < period }
+        ensures { Joins result self.ticks period }
+    {
+        let period = u64::from(period);
+        let times = self.ticks / gcd(self.ticks, period);
+        times * period
     }
 
     /// Its length in ticks.

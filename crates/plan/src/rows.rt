@@ -6,13 +6,12 @@ ghost use Rattle.plan.specs.Checks.{first_wrong};
 ghost use Rattle.plan.specs.Flaws.{rule_checks};
 ghost use Rattle.plan.specs.Layout.{row_bit, row_bytes, row_of, rows_of, spare_of, task_of};
 ghost use Rattle.plan.specs.Periods.{IsLcm};
-ghost use Rattle.plan.specs.Plans.{tasks_in};
 ghost use Rattle.plan.specs.Rows.{RowAdmitted, RowsAdmitted};
 ghost use Rattle.plan.specs.Tasks.{periods};
 
-use crate::admitted::{MOST_TASKS, Plan};
+use crate::admitted::MOST_TASKS;
 use crate::blocks::CacheBlocks;
-use crate::heads::Head;
+use crate::heads::{HEAD_BYTES, Head};
 use crate::periods::Hyperperiod;
 use crate::tasks::Task;
 use bits::reader::BitReader;
@@ -20,6 +19,14 @@ use fault::{Cause, Fault, Layer};
 
 /// The bytes of a row.
 pub const ROW_BYTES: usize = 29;
+
+/// The tasks of all rows, with their greatest offset and their hyperperiod.
+pub(crate) struct Rows {
+    pub(crate) tasks: [Task; MOST_TASKS],
+    pub(crate) greatest_offset: u32,
+    pub(crate) hyperperiod: Hyperperiod,
+    ghost sized: { length tasks ≡ 16 },
+}
 
 /// The task and the spare bits that the first 29 of these bytes spell, or nothing where there are fewer.
 fn read_row(bytes: &[u8]) -> Option<(Task, u64)>
@@ -58,7 +65,7 @@ fn read_row(bytes: &[u8]) -> Option<(Task, u64)>
 pub(crate) fn row_bit(row: u8, first: u8) -> u64
     ensures { result ≡ row_bit row first }
 {
-    16 + 232 * u64::from(row) + u64::from(first)
+    8 * (HEAD_BYTES + ROW_BYTES * usize::from(row)) as u64 + u64::from(first)
 }
 
 /// The bytes from a row on: none where the body ends before it.
@@ -66,7 +73,7 @@ fn from_row(body: &[u8], row: u8) -> &[u8]
     ensures value { result.now ≡ row_bytes body.now row }
     ensures len { length body.now ≤ length result.now + 29 * row }
 {
-    body.get(ROW_BYTES * row as usize..).unwrap_or(&[])
+    body.get(ROW_BYTES * usize::from(row)..).unwrap_or(&[])
 }
 
 /// The task of a row, unless the row is cut or has spare bits set.
@@ -74,7 +81,7 @@ fn row_task(body: &[u8], row: u8) -> Result<Task, Fault>
     ensures { result ≡ unless (first_wrong (byte_checks body.now row)) (row_of body.now row) }
 {
     let Some((task, spare)) = read_row(from_row(body, row)) else {
-        let end = 16 + 8 * body.len() as u64;
+        let end = 8 * (HEAD_BYTES + body.len()) as u64;
         return Err(
             Fault::new(Layer::Bytes, Cause::EndsEarly)
                 .at_row(row)
@@ -118,10 +125,10 @@ fn admit_row(body: &[u8], row: u8, before: Hyperperiod) -> Result<(Task, Hyperpe
     Ok((task, hyperperiod))
 }
 
-/// The plan of this head and of the rows behind it.
-pub(crate) fn read_rows(body: &[u8], head: Head) -> Result<Plan, Fault>
+/// The rows behind this head, with their greatest offset and their hyperperiod.
+pub(crate) fn read_rows(body: &[u8], head: Head) -> Result<Rows, Fault>
     ensures { MatchResult result
-        (λ p. (p.head ≡ head) × RowsAdmitted body.now head.count (tasks_in p) p.greatest_offset p.hyperperiod.ticks)
+        (λ rows. RowsAdmitted body.now head.count (take head.count rows.tasks) rows.greatest_offset rows.hyperperiod.ticks)
         (λ e. first_wrong (rows_checks body.now head.count) ≡ Some e) }
 {
     let mut tasks = [Task::default(); MOST_TASKS];
@@ -129,12 +136,11 @@ pub(crate) fn read_rows(body: &[u8], head: Head) -> Result<Plan, Fault>
     let mut hyperperiod = Hyperperiod::of_none();
     for row in 0..head.count {
         let (task, joined) = admit_row(body, row, hyperperiod)?;
-        tasks[row as usize] = task;
+        tasks[usize::from(row)] = task;
         greatest_offset = greatest_offset.max(task.offset);
         hyperperiod = joined;
     }
-    Ok(Plan {
-        head,
+    Ok(Rows {
         tasks,
         greatest_offset,
         hyperperiod,

@@ -7,7 +7,7 @@ ghost use Rattle.plan.specs.Plans.{OnlyEncoding, content_of};
 
 use super::Plan;
 use crate::heads::reading::read_head;
-use crate::rows::{ROW_BYTES, read_rows, row_bit};
+use crate::rows::{ROW_BYTES, Rows, read_rows, row_bit};
 use fault::{Cause, Fault, Layer};
 
 /// The plan that these bytes spell, or the first thing that is wrong with them.
@@ -18,9 +18,18 @@ pub fn admit(bytes: &[u8]) -> Result<Plan, Fault>
     ensures encoding { IfOk result (λ p. OnlyEncoding (content_of p) bytes.now) }
 {
     let (head, body) = read_head(bytes)?;
-    let plan = read_rows(body, head)?;
+    let Rows {
+        tasks,
+        greatest_offset,
+        hyperperiod,
+    } = read_rows(body, head)?;
     end_after(body, head.count)?;
-    Ok(plan)
+    Ok(Plan {
+        head,
+        tasks,
+        greatest_offset,
+        hyperperiod,
+    })
 }
 
 /// Refuses bytes after the last row.
@@ -29,7 +38,7 @@ fn end_after(body: &[u8], count: u8) -> Result<(), Fault>
         (λ _. first_wrong (end_checks body.now count) ≡ None)
         (λ e. first_wrong (end_checks body.now count) ≡ Some e) }
 {
-    if body.len() > ROW_BYTES * count as usize {
+    if body.len() > ROW_BYTES * usize::from(count) {
         let end = row_bit(count, 0);
         return Err(Fault::new(Layer::Bytes, Cause::ExtraBytes).at_bit(end));
     }

@@ -14,7 +14,7 @@ impl Plan {
     pub fn tasks(&self) -> &[Task]
         ensures { result.now ≡ tasks_in self.now }
     {
-        &self.tasks[0..self.head.count as usize]
+        &self.tasks[0..usize::from(self.head.count)]
     }
 
     /// How many ticks it takes to reload one block.

@@ -16,10 +16,10 @@ pub loop-row-preserved : goal.loop-row-preserved
 loop-row-preserved c =
     let within : c.loop-row.row < length c.loop-row.tasks = omega arith in
     let longer = take_more_set c.loop-row.tasks c.loop-row.row c.in_ok-task.task within in
-    (search rules, rows_more _ _ _ _ _ _ _ _ _ c.loop-row.invariant.1 c.in_ok-task.ensures longer c.max-greatest_offset.ensures)
+    (search rules, rw c.from.ensures (rows_more _ _ _ _ _ _ _ _ _ c.loop-row.invariant.1 c.in_ok-task.ensures longer c.max-greatest_offset.ensures))
 
 pub returns : goal.returns
 returns c =
     let all : c.loop-row.row ≡ c.args.head.count = omega arith in
     let Done : ℕ → Type 0 = λ n. RowsAdmitted c.args.body.now n (take n c.loop-row.tasks) c.loop-row.greatest_offset c.loop-row.hyperperiod.ticks in
-    (refl, subst Done all c.loop-row.invariant.1)
+    subst Done all c.loop-row.invariant.1
