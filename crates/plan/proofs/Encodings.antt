@@ -1,5 +1,5 @@
 -- What the fields of head and rows say of the bytes, whatever stands around them.
-use Rattle.std.proofs.Common.{◌≡◌, ℕ, zero, suc, ◌+◌, ◌-◌, ◌*◌, ◌<◌, ◌≤◌, not, eqb, ltb, List, [], ◌∷◌, ◌++◌, length, get_or, None, Ok, sym, refl, ap, ◌∙◌, subst, ap₂, arith, length-drop}
+use Rattle.std.proofs.Common.{◌≡◌, ℕ, zero, suc, ◌+◌, ◌-◌, ◌*◌, ◌<◌, ◌≤◌, not, eqb, ltb, List, [], ◌∷◌, ◌++◌, length, get_or, None, Ok, sym, ap, ◌∙◌, subst, ap₂, arith, length-drop}
 use Rattle.bits.proofs.Layouts.{fields_at_part, same_spelled_from_fields, same_bytes, spelled_split}
 use Rattle.bits.specs.Bits.{spelled}
 use Rattle.bits.specs.Layouts.{Bytes, fields_at}

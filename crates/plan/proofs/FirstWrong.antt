@@ -1,5 +1,5 @@
 -- The first check that is wrong, of two lists after one another.
-use Rattle.std.proofs.Common.{◌≡◌, ℕ, Bool, true, false, cond, List, [], ◌∷◌, ◌++◌, Some, None, Ok, Option, refl, ◌∙◌, arith}
+use Rattle.std.proofs.Common.{◌≡◌, ℕ, Bool, true, false, cond, List, [], ◌∷◌, ◌++◌, Some, None, Ok, Err, Option, refl, ◌∙◌, arith}
 use Rattle.plan.specs.Admission.{unless}
 use Rattle.plan.specs.Checks.{Check, first_wrong}
 
@@ -27,6 +27,10 @@ module _ {F : Type 0} where
   pub unless_ok : {X : Type 0} (o : Option F) (x y : X) → Ok x ≡ unless o y → (o ≡ None) × (x ≡ y)
   unless_ok None x y e = (refl, cc)
   unless_ok (Some f) x y e = let clash : ◌≡◌ {A = ℕ} 0 1 = cc in absurd (omega arith)
+
+  pub unless_err : {X : Type 0} (o : Option F) (f : F) (y : X) → Err f ≡ unless o y → o ≡ Some f
+  unless_err None f y e = let clash : ◌≡◌ {A = ℕ} 0 1 = cc in absurd (omega arith)
+  unless_err (Some g) f y e = cc
 
   -- where nothing is wrong, nothing is wrong in either part
   pub both_passed : (xs ys : List (Check F)) → first_wrong (xs ++ ys) ≡ None → (first_wrong xs ≡ None) × (first_wrong ys ≡ None)

@@ -101,9 +101,7 @@ fn row_task(body: &[u8], row: u8) -> Result<Task, Fault>
 
 /// Refuses a task that breaks a rule by itself.
 fn keep_rules(task: Task, row: u8) -> Result<(), Fault>
-    ensures { MatchResult result
-        (λ _. first_wrong (rule_checks (in_row row) task) ≡ None)
-        (λ e. first_wrong (rule_checks (in_row row) task) ≡ Some e) }
+    ensures { result ≡ unless (first_wrong (rule_checks (in_row row) task)) tt }
 {
     task.check().map_err(|flaw| {
         let bit = row_bit(row, flaw.first);

@@ -1,7 +1,7 @@
 //! Admission: from bytes to a plan, or to the first fault.
 
 ghost use Rattle.std.specs.Prelude.{◌≡◌, ◌≤◌, IfOk, Some, None, Ok, Err, MatchResult};
-ghost use Rattle.plan.specs.Admission.{admission, end_checks};
+ghost use Rattle.plan.specs.Admission.{admission, end_checks, unless};
 ghost use Rattle.plan.specs.Checks.{first_wrong};
 ghost use Rattle.plan.specs.Plans.{OnlyEncoding, content_of};
 
@@ -34,9 +34,7 @@ pub fn admit(bytes: &[u8]) -> Result<Plan, Fault>
 
 /// Refuses bytes after the last row.
 fn end_after(body: &[u8], count: u8) -> Result<(), Fault>
-    ensures { MatchResult result
-        (λ _. first_wrong (end_checks body.now count) ≡ None)
-        (λ e. first_wrong (end_checks body.now count) ≡ Some e) }
+    ensures { result ≡ unless (first_wrong (end_checks body.now count)) tt }
 {
     if body.len() > ROW_BYTES * usize::from(count) {
         let end = row_bit(count, 0);

@@ -9,6 +9,7 @@ use super::{Head, REVISION};
 use fault::{Cause, Fault, Layer};
 
 /// The head of a plan and the bytes after it.
+#[tactic(auto, using(crate::proofs::HeadBits::revision_bits, crate::proofs::HeadBits::spare_bits))]
 pub(crate) fn read_head(bytes: &[u8]) -> Result<(Head, &[u8]), Fault>
     ensures { MatchResult result
         (λ p. (first_wrong (head_checks bytes.now) ≡ None) × HeadOf bytes.now p.0 p.1.now)

@@ -3,17 +3,6 @@ use Rattle.std.proofs.lemmas.List.{take_rest}
 use Rattle.plan.proofs.HeadBits.{revision_bits, count_bits, reload_bits, spare_bits}
 use Rattle.plan.proofs.heads.reading.read_head.Goals as goal
 
-pub returns-then-first-ne-REVISION : goal.returns-then-first-ne-REVISION
-returns-then-first-ne-REVISION c =
-    let revision = revision_bits c.args.bytes.now (omega (arith, c.type_inv.bytes 0)) in
-    search rules
-
-pub returns-then-second-ne0 : goal.returns-then-second-ne0
-returns-then-second-ne0 c =
-    let revision = revision_bits c.args.bytes.now (omega (arith, c.type_inv.bytes 0)) in
-    let spare = spare_bits c.args.bytes.now in
-    search rules
-
 pub returns : goal.returns
 returns c =
     let revision = revision_bits c.args.bytes.now (omega (arith, c.type_inv.bytes 0)) in
