@@ -134,6 +134,7 @@ pub(crate) fn read_rows(body: &[u8], head: Head) -> Result<Rows, Fault>
     let mut hyperperiod = Hyperperiod::of_none();
     for row in 0..head.count {
         let (task, joined) = admit_row(body, row, hyperperiod)?;
+        // by its index: nothing is known of what a loop writes through a zip
         tasks[usize::from(row)] = task;
         greatest_offset = greatest_offset.max(task.offset);
         hyperperiod = joined;

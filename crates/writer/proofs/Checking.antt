@@ -4,7 +4,7 @@ use Rattle.std.proofs.lemmas.Bool.{cond-false, leb-false, ltb-false, not-false, 
 use Rattle.std.proofs.lemmas.Bool.Decides.{nat_tests}
 use Rattle.fault.specs.declared.Fault.{Fault}
 use Rattle.plan.proofs.Commons.{common_found, lcm_pair}
-use Rattle.plan.proofs.FirstWrong.{none_left, passed_before, wrong_before}
+use Rattle.plan.proofs.FirstWrong.{none_left, passed_before}
 use Rattle.plan.proofs.RowLaws.{lawful_from, rules_kept}
 use Rattle.plan.specs.declared.tasks.Task.{Task}
 use Rattle.plan.specs.Checks.{first_wrong}
@@ -25,15 +25,9 @@ fits_parts t e = record {
 }
 
 module _ (w : PlanWriter) (t : Task) (room : ℕ) where
-  pub place_refuses : (f : Fault) → first_wrong (place_checks w t room) ≡ Some f → first_wrong (row_checks w t room) ≡ Some f
-  place_refuses f e = wrong_before (place_checks w t room) (rule_checks (in_writer w.next) t ++ period_checks w t) f e
-
   module _ (placed : first_wrong (place_checks w t room) ≡ None) where
     past_place : first_wrong (row_checks w t room) ≡ first_wrong (rule_checks (in_writer w.next) t ++ period_checks w t)
     past_place = passed_before (place_checks w t room) (rule_checks (in_writer w.next) t ++ period_checks w t) placed
-
-    pub rule_refuses : (f : Fault) → first_wrong (rule_checks (in_writer w.next) t) ≡ Some f → first_wrong (row_checks w t room) ≡ Some f
-    rule_refuses f e = past_place ∙ wrong_before (rule_checks (in_writer w.next) t) (period_checks w t) f e
 
     pub period_refuses : (f : Fault) → first_wrong (rule_checks (in_writer w.next) t) ≡ None → first_wrong (period_checks w t) ≡ Some f → first_wrong (row_checks w t room) ≡ Some f
     period_refuses f kept e = past_place ∙ (passed_before (rule_checks (in_writer w.next) t) (period_checks w t) kept ∙ e)

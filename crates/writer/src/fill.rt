@@ -7,7 +7,7 @@ ghost use Rattle.writer.specs.Rules.{whole_bytes};
 ghost use Rattle.writer.specs.Written.{Fits, HeadOf, HeadWritten, RowWritten};
 
 use bits::writer::FieldWriter;
-use plan::{Head, REVISION, ROW_BYTES, Task};
+use plan::{HEAD_BYTES, Head, REVISION, ROW_BYTES, Task};
 
 /// Writes the head of a plan into its two bytes.
 fn fill_head(bytes: &mut [u8], head: Head)
@@ -43,7 +43,7 @@ fn fill_row(row: &mut [u8], task: Task)
 pub(crate) fn whole_bytes(count: u8) -> usize
     ensures { result ≡ whole_bytes count }
 {
-    2 + ROW_BYTES * count as usize
+    HEAD_BYTES + ROW_BYTES * usize::from(count)
 }
 
 /// Writes the head into the first two bytes of a buffer.
@@ -51,7 +51,7 @@ pub(crate) fn write_head(buffer: &mut [u8], head: Head)
     requires { 2 ≤ length buffer.old }
     ensures { HeadWritten buffer.old buffer.new head.count head.block_reload_time }
 {
-    fill_head(&mut buffer[0..2], head);
+    fill_head(&mut buffer[0..HEAD_BYTES], head);
 }
 
 /// Writes a task into its row, in the middle of a buffer.

@@ -1,4 +1,5 @@
 ghost use Rattle.std.specs.Prelude.{◌≡◌, ◌+◌, ◌*◌, ◌<◌, ◌≤◌, length, IfOk, Some, None, MatchResult, OnOk};
+ghost use Rattle.plan.specs.Admission.{unless};
 ghost use Rattle.plan.specs.Checks.{first_wrong};
 ghost use Rattle.plan.specs.Flaws.{rule_checks};
 ghost use Rattle.plan.specs.Periods.{Joins};
@@ -50,6 +51,7 @@ impl PlanWriter {
             let early = Fault::new(Layer::Writer, Cause::RowCountMismatch).at_row(self.next);
             return Err((early, self));
         }
+        // each field is named, since `..` would let a whole writer go
         let PlanWriter {
             count,
             next: _,
@@ -63,6 +65,7 @@ impl PlanWriter {
         ensures { result ≡ self.next }
     {
         let rows = self.next;
+        // each field is named, since `..` would let a whole writer go
         let PlanWriter {
             count: _,
             next: _,
@@ -103,9 +106,7 @@ impl PlanWriter {
     }
 
     fn check_place(&self, room: usize, task: Task) -> Result<(), Fault>
-        ensures { MatchResult result
-            (λ _. first_wrong (place_checks self.now task room) ≡ None)
-            (λ e. first_wrong (place_checks self.now task room) ≡ Some e) }
+        ensures { result ≡ unless (first_wrong (place_checks self.now task room)) tt }
     {
         if self.next >= self.count {
             return Err(Fault::new(Layer::Writer, Cause::RowCountMismatch).at_row(self.next));
@@ -126,7 +127,7 @@ fn check_begin(room: usize, count: u8, block_reload_time: u8) -> Result<Head, Fa
         (λ head. MayBegin count block_reload_time room head)
         (λ e. first_wrong (begin_checks count block_reload_time room) ≡ Some e) }
 {
-    if count < 1 || count as usize > MOST_TASKS || block_reload_time > LONGEST_RELOAD {
+    if count < 1 || usize::from(count) > MOST_TASKS || block_reload_time > LONGEST_RELOAD {
         return Err(Fault::new(Layer::Writer, Cause::OutsideField));
     }
     if room < whole_bytes(count) {
@@ -151,9 +152,7 @@ fn fits_row(task: Task) -> bool
 
 /// Refuses a task that breaks a rule by itself.
 fn keep_rules(task: Task, row: u8) -> Result<(), Fault>
-    ensures { MatchResult result
-        (λ _. first_wrong (rule_checks (in_writer row) task) ≡ None)
-        (λ e. first_wrong (rule_checks (in_writer row) task) ≡ Some e) }
+    ensures { result ≡ unless (first_wrong (rule_checks (in_writer row) task)) tt }
 {
     task.check()
         .map_err(|flaw| Fault::new(Layer::Writer, flaw.cause).at_row(row))
