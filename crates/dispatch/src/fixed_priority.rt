@@ -1,6 +1,6 @@
 //! Fixed priority: the greatest priority first.
 
-ghost use Rattle.std.specs.Prelude.{◌≡◌, nat_le, slice_get};
+ghost use Rattle.std.specs.Prelude.{◌≡◌, length, nat_le, slice_get};
 ghost use Rattle.std.specs.Option.{option_map_or};
 ghost use Rattle.dispatch.specs.Policies.{fixed_priority, priority_at, priority_table};
 ghost use Rattle.plan.specs.Plans.{tasks_in};
@@ -17,6 +17,7 @@ use std::array;
 #[derive(Clone, Copy)]
 pub struct FixedPriority {
     priorities: [u8; MOST_TASKS],
+    ghost sized: { length priorities ≡ 16 },
 }
 
 impl FixedPriority {
