@@ -7,6 +7,7 @@ ghost use Rattle.dispatch.specs.Rules.{better, most_urgent};
 use crate::candidates::{Candidate, is_live};
 
 /// An order of urgency among the tasks that are shown.
+// Two laws of our own: `min_by_key` over a key of any type takes a longer proof.
 pub(crate) trait Urgency {
     /// The first task is at least as urgent as the second.
     ghost urgent: { Self → List Candidate → ℕ → ℕ → Bool };
