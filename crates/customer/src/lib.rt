@@ -1,4 +1,4 @@
-//! What a camera maker writes to bring a dispatch rule of his own.
+//! What a camera maker writes to bring a dispatch rule or a delay model of his own, and what he knows of the models that a plan opens.
 
 #![tactic(auto)]
 

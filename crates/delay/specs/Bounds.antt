@@ -5,10 +5,9 @@ use Rattle.std.proofs.lemmas.Nat.{mul-le}
 use Rattle.std.proofs.lemmas.Bool.{and_parts}
 use Rattle.std.proofs.lemmas.Bool.Decides.{nat_tests}
 use Rattle.plan.specs.Admission.{Content}
-use Rattle.plan.specs.Tasks.{all_of, lawful}
+use Rattle.plan.specs.Tasks.{all_of, lawful, zero_task}
 use Rattle.plan.specs.declared.tasks.Task.{Task}
 use Rattle.delay.specs.declared.mark.Mark.{Mark}
-use Rattle.delay.specs.Figures.{zero_task}
 use Rattle.delay.specs.Lines.{count_below}
 use Rattle.delay.specs.Models.{fixed_delay, useful_blocks, loaded_blocks, to_reload}
 use Rattle.delay.specs.LineLaws.{bit_small}

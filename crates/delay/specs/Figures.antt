@@ -1,24 +1,12 @@
 -- What a plan says of a task number. Assumes nothing.
---     zero_task         no times, no delay and no cache lines
 --     task_at c i       the task of row i, the zero task where the plan has no such row
 --     delay_of c i      the fixed delay of task i
 --     useful_of c i     its useful cache lines
 --     evicting_of c i   the cache lines that it evicts
 use Rattle.std.specs.Prelude.{ℕ, slice_index_or}
 use Rattle.plan.specs.Admission.{Content}
+use Rattle.plan.specs.Tasks.{zero_task}
 use Rattle.plan.specs.declared.tasks.Task.{Task}
-
-abbrev pub zero_task : Task
-zero_task = record {
-  offset = 0;
-  period = 0;
-  deadline = 0;
-  work = 0;
-  priority = 0;
-  fixed_delay = 0;
-  useful = record { lines = 0 };
-  evicting = record { lines = 0 };
-}
 
 abbrev pub task_at : Content → ℕ → Task
 task_at c i = slice_index_or c.tasks i zero_task

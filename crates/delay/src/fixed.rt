@@ -4,7 +4,6 @@ ghost use Rattle.delay.specs.Models.{fixed_delay};
 ghost use Rattle.plan.specs.Plans.{content_of};
 ghost use Rattle.delay.specs.Bounds.{fixed_bounded};
 
-use crate::figures::task_at;
 use crate::mark::Mark;
 use crate::mark_model::MarkModel;
 use crate::rule::{MarkRule, PlanRule};
@@ -14,7 +13,7 @@ use plan::{CacheBlocks, Plan};
 pub type FixedDelay = MarkModel<FixedDelayRule>;
 
 /// What the mark of a task keeps once it has lost the core: the set of line 0 alone.
-const LOST: u64 = 1 << 63;
+const LOST: CacheBlocks = CacheBlocks { lines: 1 << 63 };
 
 /// A job that lost the core pays the fixed delay of its task, once.
 #[derive(Clone, Copy)]
@@ -40,7 +39,7 @@ impl MarkRule for FixedDelayRule {
     }
 
     fn lose(&self, _task: usize, _to: usize, mark: Mark) -> Mark {
-        mark.keeping(CacheBlocks { lines: LOST })
+        mark.keeping(LOST)
     }
 
     fn spend(&self, _task: usize, mark: Mark) -> Mark {
@@ -52,8 +51,8 @@ impl MarkRule for FixedDelayRule {
     }
 
     fn answer(&self, task: usize, mark: Mark) -> u16 {
-        if mark.kept.lines == LOST {
-            task_at(&self.plan, task).fixed_delay
+        if mark.kept == LOST {
+            self.plan.task(task).fixed_delay
         } else {
             0
         }

@@ -3,7 +3,6 @@
 #![tactic(auto)]
 
 mod cache;
-mod figures;
 mod fixed;
 mod lines;
 mod loaded;

@@ -5,7 +5,6 @@ ghost use Rattle.plan.specs.Plans.{content_of};
 ghost use Rattle.delay.specs.Bounds.{loaded_bounded};
 
 use crate::cache::{evicted, to_reload};
-use crate::figures::task_at;
 use crate::lines::line_count;
 use crate::mark::Mark;
 use crate::mark_model::MarkModel;
@@ -38,7 +37,7 @@ impl MarkRule for LoadedBlocksRule {
 
     fn begin(&self, task: usize, _mark: Mark) -> Mark {
         Mark {
-            kept: task_at(&self.plan, task).useful,
+            kept: self.plan.task(task).useful,
             credit: 0,
         }
     }
@@ -48,7 +47,7 @@ impl MarkRule for LoadedBlocksRule {
     }
 
     fn spend(&self, task: usize, mark: Mark) -> Mark {
-        let useful = task_at(&self.plan, task).useful;
+        let useful = self.plan.task(task).useful;
         let most = reload_ticks(line_count(useful), self.plan.block_reload_time());
         Mark {
             credit: credited(mark.credit, most),
@@ -58,7 +57,7 @@ impl MarkRule for LoadedBlocksRule {
 
     fn resume(&self, task: usize, mark: Mark) -> Mark {
         Mark {
-            kept: task_at(&self.plan, task).useful,
+            kept: self.plan.task(task).useful,
             credit: mark.credit - self.answer(task, mark),
         }
     }

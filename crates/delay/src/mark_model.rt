@@ -11,7 +11,7 @@ use crate::rule::{MarkRule, PlanRule};
 use crate::table::MarkTable;
 use plan::{MOST_TASKS, Plan};
 
-/// The delay model of a rule: a mark for each of 16 tasks, which every call changes as the rule says.
+/// The delay model of a rule: a mark for each of 16 tasks, which calls change as the rule says; where a job finishes it is zero again.
 #[derive(Clone, Copy)]
 pub struct MarkModel<R> {
     rule: R,
@@ -56,6 +56,7 @@ impl<R: MarkRule> DelayModel for MarkModel<R> {
     }
 
     fn lose(&mut self, task: usize, to: usize) {
+        // a `DelayModel` promises that a loss to a number above 15 changes nothing
         if to < MOST_TASKS {
             let mark = self.table.at(task);
             self.table.put(task, self.rule.lose(task, to, mark));
@@ -70,6 +71,7 @@ impl<R: MarkRule> DelayModel for MarkModel<R> {
     fn resume(&mut self, task: usize) -> u16 {
         let mark = self.table.at(task);
         self.table.put(task, self.rule.resume(task, mark));
+        // a `DelayModel` promises 0 for a number above 15, whatever the rule answers for it
         if task < MOST_TASKS {
             self.rule.answer(task, mark)
         } else {

@@ -7,7 +7,7 @@ ghost use Rattle.delay.specs.declared.mark.Mark.{Mark};
 
 use crate::mark::Mark;
 
-/// A rule for what a job pays when it goes on after a preemption.
+/// What a job pays when it goes on after a preemption, and what is remembered of each task for that.
 ///
 /// Its meaning is one profile, which no call changes, and a mark for each of 16 tasks: a call changes the mark of its task
 /// by the profile, and no other mark. A call with a task number above 15 changes nothing.

@@ -11,7 +11,8 @@ use plan::Plan;
 
 /// What a delay model makes of one mark; `MarkModel` keeps a mark for each task by it.
 ///
-/// Its meaning is one profile. No call changes the rule itself, so nothing can be counted outside of the marks.
+/// Its meaning is one profile, and each answer is the profile's of the mark alone: what a rule counts outside of the marks
+/// (in a cell, say) can make no difference to it.
 pub trait MarkRule {
     ghost profile: { Self → Profile };
 

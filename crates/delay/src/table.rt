@@ -34,6 +34,7 @@ impl MarkTable {
     pub fn put(&mut self, task: usize, mark: Mark)
         ensures { self.new.marks ≡ slice_set self.old.marks task mark }
     {
+        // an index behind a test, not `get_mut`: a proof knows nothing of the table after `get_mut`
         if task < MOST_TASKS {
             self.marks[task] = mark;
         }

@@ -5,7 +5,6 @@ ghost use Rattle.plan.specs.Plans.{content_of};
 ghost use Rattle.delay.specs.Bounds.{useful_bounded};
 
 use crate::cache::{evicted, to_reload};
-use crate::figures::task_at;
 use crate::mark::Mark;
 use crate::mark_model::MarkModel;
 use crate::rule::{MarkRule, PlanRule};
@@ -35,7 +34,7 @@ impl MarkRule for UsefulBlocksRule {
     ghost bounded = { λ r i k. useful_bounded (content_of r.plan) i k r.plan.head.reloads };
 
     fn begin(&self, task: usize, mark: Mark) -> Mark {
-        mark.keeping(task_at(&self.plan, task).useful)
+        mark.keeping(self.plan.task(task).useful)
     }
 
     fn lose(&self, _task: usize, to: usize, mark: Mark) -> Mark {
@@ -47,7 +46,7 @@ impl MarkRule for UsefulBlocksRule {
     }
 
     fn resume(&self, task: usize, mark: Mark) -> Mark {
-        mark.keeping(task_at(&self.plan, task).useful)
+        mark.keeping(self.plan.task(task).useful)
     }
 
     fn answer(&self, task: usize, mark: Mark) -> u16 {

@@ -4,12 +4,11 @@ use Prim.Native.Nat.{◌∣◌}
 use native.Mathlib.Nat.{div-mul_cancel, dvd_antisymm, dvd_of_mod-eq-zero}
 use Rattle.std.proofs.lemmas.List.{length-take}
 use Rattle.std.proofs.lemmas.Bool.{and_parts, eqb-true}
-use Rattle.delay.specs.Figures.{zero_task}
 use Rattle.delay.specs.Profiles.{Profile}
 use Rattle.dispatch.specs.Rules.{Rule}
 use Rattle.plan.proofs.TaskTimes.{Times, times_at}
 use Rattle.plan.specs.Periods.{IsLcm, common}
-use Rattle.plan.specs.Tasks.{greatest, offsets, periods}
+use Rattle.plan.specs.Tasks.{greatest, offsets, periods, zero_task}
 use Rattle.plan.specs.declared.admitted.Plan.{Plan}
 use Rattle.plan.specs.declared.tasks.Task.{Task}
 use Rattle.schedule.specs.Schedules.{from}

@@ -1,8 +1,8 @@
 -- What the releases of an instant do to one task.
 use Rattle.std.proofs.Common.{◌≡◌, ℕ, suc, ◌<◌, cond, length, get_or, arith}
 use Rattle.std.proofs.lemmas.List.{get_or-replicate}
+use Rattle.plan.specs.Tasks.{zero_task}
 use Rattle.schedule.proofs.Eaches.{each_at}
-use Rattle.delay.specs.Figures.{zero_task}
 use Rattle.schedule.specs.Jobs.{counted, due, entered, vacant}
 use Rattle.schedule.specs.Schedules.{moment, state_at}
 use Rattle.schedule.specs.States.{Setting, next_of, slot_of, task_of}

@@ -10,8 +10,8 @@
 --     Service c             what is proved of the schedule of c
 --     core_ticks ts row     how many ticks of the core the job of a row has had, where ts are the tasks of the plan
 use Rattle.std.specs.Prelude.{◌≡◌, ℕ, zero, suc, ◌+◌, ◌^◌, ◌<◌, ◌≤◌, Bool, true, false, cond, ◌&&◌, List, length, Some, None, Decides, Option, ◌==◌, ◌≢◌, nat_lt, slice_index_or}
-use Rattle.delay.specs.Figures.{zero_task}
 use Rattle.delay.specs.Lines.{count_below}
+use Rattle.plan.specs.Tasks.{zero_task}
 use Rattle.plan.specs.declared.tasks.Task.{Task}
 use Rattle.schedule.specs.Jobs.{due, live_job, release}
 use Rattle.schedule.specs.Rows.{job_row, switch_row}

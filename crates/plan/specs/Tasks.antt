@@ -1,4 +1,5 @@
 -- The rules of one task. Assumes nothing.
+--     zero_task                  no times, no delay and no cache lines
 --     zero_period t              the period is 0
 --     times_out_of_order t       not 1 ≤ work ≤ deadline ≤ period
 --     useful_not_evicting t      a useful block is not an evicting block
@@ -10,6 +11,18 @@
 use Rattle.std.specs.Prelude.{ℕ, ◌^◌, max, Bool, true, not, ◌&&◌, List, [], ◌∷◌, map, ◌==◌, nat_le, nat_lt}
 use Rattle.plan.specs.declared.tasks.Task.{Task}
 use Rattle.plan.specs.Blocks.{within}
+
+abbrev pub zero_task : Task
+zero_task = record {
+  offset = 0;
+  period = 0;
+  deadline = 0;
+  work = 0;
+  priority = 0;
+  fixed_delay = 0;
+  useful = record { lines = 0 };
+  evicting = record { lines = 0 };
+}
 
 -- A task without a period is never released.
 abbrev pub zero_period : Task → Bool

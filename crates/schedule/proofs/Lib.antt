@@ -1,6 +1,5 @@
 pub mod Eaches
 pub mod Losses
-pub mod LiveJobs
 pub mod Places
 pub mod Calendars
 pub mod Owing

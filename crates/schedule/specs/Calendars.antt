@@ -8,8 +8,8 @@ use Rattle.schedule.specs.declared.calendar.next_job.NextJob.{NextJob}
 
 -- Its release, and the deadline of the live job.
 abbrev pub next_job : Task → ℕ → NextJob
-next_job k n = record { number = n; release = release k n; deadline = deadline_at k (live_job n) }
+next_job k n = record { number = n; release = release k n; live_deadline = deadline_at k (live_job n) }
 
 -- Zeros.
 abbrev pub no_job : NextJob
-no_job = record { number = 0; release = 0; deadline = 0 }
+no_job = record { number = 0; release = 0; live_deadline = 0 }

@@ -9,12 +9,12 @@
 --     start_state                    the state at instant 0
 --     start_moment                   the moment at instant 0
 use Rattle.std.specs.Prelude.{ℕ, List, replicate, None, Option, slice_index, slice_index_or}
-use Rattle.delay.specs.Figures.{zero_task}
 use Rattle.delay.specs.Marks.{zero_mark}
 use Rattle.delay.specs.Profiles.{Profile}
 use Rattle.delay.specs.declared.mark.Mark.{Mark}
 use Rattle.dispatch.specs.Rules.{Rule}
 use Rattle.plan.specs.Plans.{tasks_in}
+use Rattle.plan.specs.Tasks.{zero_task}
 use Rattle.plan.specs.declared.admitted.Plan.{Plan}
 use Rattle.plan.specs.declared.tasks.Task.{Task}
 use Rattle.schedule.specs.Jobs.{vacant}

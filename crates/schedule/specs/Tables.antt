@@ -16,11 +16,11 @@
 --     Passed c t o x y rows        steps 3 to 5 at instant t lead from the moment x to the moment y where the choice is o, and write these rows
 --     Ticked c t x y rows          tick t leads from the moment x to the moment y and writes these rows
 use Rattle.std.specs.Prelude.{◌≡◌, ℕ, cond, List, map, Some, None, Option, slice_index, slice_index_or, slice_set}
-use Rattle.delay.specs.Figures.{zero_task}
 use Rattle.delay.specs.Models.{no_delay}
 use Rattle.delay.specs.Profiles.{Profile}
 use Rattle.delay.specs.declared.mark.Mark.{Mark}
 use Rattle.plan.specs.Plans.{tasks_in}
+use Rattle.plan.specs.Tasks.{zero_task}
 use Rattle.plan.specs.declared.admitted.Plan.{Plan}
 use Rattle.plan.specs.declared.tasks.Task.{Task}
 use Rattle.schedule.specs.JobTables.{delays_in, slots_in}

@@ -1,8 +1,8 @@
 //! When the jobs of the tasks are released, and when they have to be finished.
 
 ghost use Rattle.std.specs.Prelude.{◌≡◌, ℕ, ◌+◌, ◌≤◌, length, slice_index_or};
-ghost use Rattle.delay.specs.Figures.{zero_task};
 ghost use Rattle.plan.specs.Plans.{tasks_in};
+ghost use Rattle.plan.specs.Tasks.{zero_task};
 ghost use Rattle.schedule.specs.Calendars.{next_job, no_job};
 
 mod next_job;
@@ -23,5 +23,5 @@ pub(crate) struct Calendar {
     ghost ending: { clock ≤ 1000000000000 },
     ghost sized: { length jobs ≡ 16 },
     ghost kept: { (i : ℕ) → slice_index_or jobs i no_job ≡ next_job (slice_index_or (tasks_in plan) i zero_task) (slice_index_or jobs i no_job).number },
-    ghost near: { (i : ℕ) → (slice_index_or jobs i no_job).deadline ≤ clock + 2097152 },
+    ghost near: { (i : ℕ) → (slice_index_or jobs i no_job).live_deadline ≤ clock + 2097152 },
 }

@@ -6,12 +6,14 @@ mod opening;
 mod reading;
 mod serving;
 mod switching;
+mod writing;
 
 use crate::slots::Slot;
 use plan::MOST_TASKS;
 pub(crate) use serving::Served;
 
-/// What is known of a task's live job, and the delay answered to it so far. The default is that no job is live.
+/// What is known of a task's live job, and the delay answered to it so far, which stays when the job has finished until the next
+/// release. The default is that no job is live.
 #[derive(Clone, Copy, Default)]
 pub(crate) struct LiveJob {
     pub(crate) slot: Slot,

@@ -1,9 +1,9 @@
 //! What an admitted plan says.
 
-ghost use Rattle.std.specs.Prelude.{◌≡◌};
+ghost use Rattle.std.specs.Prelude.{◌≡◌, slice_index_or};
 ghost use Rattle.plan.specs.Periods.{IsLcm};
 ghost use Rattle.plan.specs.Plans.{content_of, tasks_in};
-ghost use Rattle.plan.specs.Tasks.{greatest, offsets, periods};
+ghost use Rattle.plan.specs.Tasks.{greatest, offsets, periods, zero_task};
 
 use super::Plan;
 use crate::periods::Hyperperiod;
@@ -15,6 +15,13 @@ impl Plan {
         ensures { result.now ≡ tasks_in self.now }
     {
         &self.tasks[0..usize::from(self.head.count)]
+    }
+
+    /// The task of a row; the task of zeros for a number that the plan has no row for.
+    pub fn task(&self, row: usize) -> Task
+        ensures { result ≡ slice_index_or (tasks_in self.now) row zero_task }
+    {
+        self.tasks().get(row).copied().unwrap_or_default()
     }
 
     /// How many ticks it takes to reload one block.

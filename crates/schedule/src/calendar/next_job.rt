@@ -11,8 +11,8 @@ pub(crate) struct NextJob {
     pub(super) number: u64,
     /// the instant of its release
     pub(super) release: u64,
-    /// the deadline of the job before it, and its own where it is job 0
-    pub(super) deadline: u64,
+    /// the deadline of the live job, which is the one before it; its own where it is job 0
+    pub(super) live_deadline: u64,
 }
 
 impl NextJob {
@@ -24,7 +24,7 @@ impl NextJob {
         NextJob {
             number: 0,
             release,
-            deadline: release + u64::from(task.deadline),
+            live_deadline: release + u64::from(task.deadline),
         }
     }
 }

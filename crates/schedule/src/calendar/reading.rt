@@ -26,13 +26,6 @@ impl Calendar {
         self.plan.tasks()
     }
 
-    /// The task of a number.
-    pub(super) fn task(&self, task: usize) -> Task
-        ensures { result ≡ task_in self.now task }
-    {
-        self.tasks().get(task).copied().unwrap_or_default()
-    }
-
     /// The next job of a task.
     fn next(&self, task: usize) -> NextJob
         ensures { result ≡ next_job (task_in self.now task) (next_at self.now task) }
@@ -58,13 +51,13 @@ impl Calendar {
     pub(crate) fn until(&self, task: usize) -> u32
         ensures { result ≡ deadline_at (task_in self.now task) (live_job (next_at self.now task)) - self.now.clock }
     {
-        self.next(task).deadline.saturating_sub(self.clock) as u32
+        self.next(task).live_deadline.saturating_sub(self.clock) as u32
     }
 
     /// The instant at which the live job of a task was released.
     pub(super) fn release(&self, task: usize) -> u64
         ensures { result ≡ release (task_in self.now task) (live_job (next_at self.now task)) }
     {
-        self.next(task).deadline - u64::from(self.task(task).deadline)
+        self.next(task).live_deadline - u64::from(self.plan.task(task).deadline)
     }
 }

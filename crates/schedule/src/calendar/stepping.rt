@@ -29,11 +29,11 @@ impl Calendar {
         if !self.is_due(task) {
             return None;
         }
-        let released = self.task(task);
+        let released = self.plan.task(task);
         let job = &mut self.jobs[task];
         job.number += 1;
         job.release += u64::from(released.period);
-        job.deadline = self.clock + u64::from(released.deadline);
+        job.live_deadline = self.clock + u64::from(released.deadline);
         Some(released.work)
     }
 }

@@ -24,6 +24,7 @@ impl JobTable {
         ensures same { M.DelayModel.profile model.new ≡ M.DelayModel.profile model.old }
         ensures marks { M.DelayModel.marks model.new ≡ lost (M.DelayModel.profile model.old) to count (state_of self.now (M.DelayModel.marks model.old)) }
     {
+        // nothing is indexed here: the number is what the model is told
         for task in 0..count {
             if self.is_losing(task, to) {
                 model.lose(task, to);

@@ -26,6 +26,7 @@ impl Schedule {
         ensures moment { moment_of self.new [] ≡ released (timed (tasks_of self.old)) (clock_of self.old) (moment_of self.old []) }
     {
         let count = self.calendar.tasks().len();
+        // nothing is indexed here: the number is what the calendar and the table are told
         for task in 0..count {
             self.release_task(task);
         }
