@@ -7,7 +7,8 @@ ghost use Rattle.dispatch.specs.Rules.{better, most_urgent};
 use crate::candidates::{Candidate, is_live};
 
 /// An order of urgency among the tasks that are shown.
-// Two laws of our own: `min_by_key` over a key of any type takes a longer proof.
+// A trait with two laws, and not a key for `min_by_key`: the clause of a function over any key
+// would have to speak of all that the key computes, and says less plainly who is chosen.
 pub(crate) trait Urgency {
     /// The first task is at least as urgent as the second.
     ghost urgent: { Self → List Candidate → ℕ → ℕ → Bool };
