@@ -11,8 +11,8 @@ use plan::Plan;
 
 /// What a delay model makes of one mark; `MarkModel` keeps a mark for each task by it.
 ///
-/// Its meaning is one profile, and each answer is the profile's of the mark alone: what a rule counts outside of the marks
-/// (in a cell, say) can make no difference to it.
+/// Its meaning is one profile: each call answers what that makes of the mark and the task numbers it is given, so what a rule
+/// counts outside of the marks (in a cell, say) changes no answer.
 pub trait MarkRule {
     ghost profile: { Self → Profile };
 
