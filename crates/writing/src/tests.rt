@@ -108,9 +108,12 @@ fn row_within(writer: &mut PlanWriter, buffer: &mut [u8], room: usize) -> Result
     writer.row(&mut buffer[0..room], SECOND)
 }
 
-/// Sixteen times the greatest values: whether every row was written.
-fn write_rows(writer: &mut PlanWriter, buffer: &mut [u8]) -> bool {
-    (0..16).all(|_| writer.row(buffer, GREATEST).is_ok())
+/// Sixteen times the greatest values.
+fn write_rows(writer: &mut PlanWriter, buffer: &mut [u8]) -> Result<(), Fault> {
+    for _ in 0..16 {
+        writer.row(buffer, GREATEST)?;
+    }
+    Ok(())
 }
 
 #[test]
@@ -232,7 +235,7 @@ fn sixteen_rows_of_the_greatest_values(rt: HostRuntime) -> Result<(), Fail> {
     let mut writer = PlanWriter::begin(&mut buffer, 16, 63)?;
     let written = write_rows(&mut writer, &mut buffer);
     let length = finished(writer);
-    assert!(rt; written);
+    written?;
     assert!(rt; length? == 466);
     assert!(rt; buffer[0] == 0x1f && buffer[1] == 0xfc);
     assert!(rt;
