@@ -8,3 +8,4 @@ pub mod Schedules
 pub mod JobTables
 pub mod Tables
 pub mod SlotLaws
+pub mod StateLaws

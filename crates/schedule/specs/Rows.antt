@@ -2,7 +2,6 @@
 --     switch_row c t x      the switch row of tick t, where x is the moment before it, or none
 --     finishes c j s        the job of j gets its last tick
 --     job_row c t x         the job row of tick t, or none
---     Summary               of one task: jobs finished, worst response, total delay answered
 --     no_summary            of a task of which nothing has been written down
 --     summarized c t x ys   the summaries after tick t, where they are ys before it
 use Rattle.std.specs.Prelude.{ℕ, ◌+◌, ◌-◌, max, Bool, cond, List, set, Some, None, Option, ◌==◌, slice_index, slice_index_or, slice_set}
@@ -11,6 +10,7 @@ use Rattle.schedule.specs.States.{Moment, Setting, State, next_of, slot_of, task
 use Rattle.schedule.specs.Ticks.{charged, chosen, delay_to, is_running, released, spent, switched}
 use Rattle.schedule.specs.declared.rows.JobRow.{JobRow}
 use Rattle.schedule.specs.declared.rows.SwitchRow.{SwitchRow}
+use Rattle.schedule.specs.declared.summaries.Summary.{Summary}
 
 -- Where the choice is o and x is the moment after the releases.
 abbrev pub switch_row_of : Setting → ℕ → Moment → Option ℕ → Option SwitchRow
@@ -43,11 +43,6 @@ job_row_of c t x (Some j) =
 -- A job that gets its last tick in tick t finishes at instant t + 1.
 unfoldable pub job_row : Setting → ℕ → Moment → Option JobRow
 job_row c t x = job_row_of c t (released c t x) (chosen c t (released c t x))
-
-pub record Summary : Type 0 where
-  pub finished : ℕ
-  pub worst : ℕ
-  pub delay : ℕ
 
 abbrev pub no_summary : Summary
 no_summary = record { finished = 0; worst = 0; delay = 0 }

@@ -3,18 +3,22 @@
 --     state_at c t          the state at instant t
 --     summaries c t         the summaries of the tasks at instant t
 --     late c t i            the job of task i is late at instant t
+--     late_first c t x      of the late jobs at instant t the one that counts, where x is the moment then, or none
 --     OnTime c t            no job is late at instant t
 --     OnTimeTo c t          no job is late up to and including instant t
 --     NeverLate c           no job is late, at any instant whatever
 --     FirstLate c t i m     job m of task i is the first late job, at instant t
 --     from c                the greatest offset, from which on the releases repeat
 --     sample c k            the state at the greatest offset and k hyperperiods
-use Rattle.std.specs.Prelude.{◌≡◌, ℕ, zero, suc, ◌+◌, ◌*◌, ◌<◌, ◌≤◌, Bool, true, false, ◌&&◌, List, length, replicate, nat_lt}
+use Rattle.std.specs.Prelude.{◌≡◌, ℕ, zero, suc, ◌+◌, ◌*◌, ◌<◌, ◌≤◌, Bool, true, false, ◌&&◌, List, length, replicate, Some, None, Option, nat_lt}
+use Rattle.dispatch.specs.Rules.{first_such}
 use Rattle.plan.specs.Tasks.{greatest, offsets}
 use Rattle.schedule.specs.Jobs.{late_job, live_job}
-use Rattle.schedule.specs.Rows.{Summary, no_summary, summarized}
+use Rattle.schedule.specs.Rows.{no_summary, summarized}
 use Rattle.schedule.specs.States.{Moment, Setting, State, next_of, slot_of, start_moment, task_of}
 use Rattle.schedule.specs.Ticks.{tick}
+use Rattle.schedule.specs.declared.rows.LateJob.{LateJob}
+use Rattle.schedule.specs.declared.summaries.Summary.{Summary}
 
 -- One tick after another. The schedule ends with its first late job: what is said of later instants is said only where none is late.
 unfoldable pub moment : Setting → ℕ → Moment
@@ -36,6 +40,14 @@ late_in c t x i = nat_lt i (length c.tasks) && late_job t (task_of c i) (next_of
 -- The state at t still has the job as live, and t is its deadline.
 abbrev pub late : Setting → ℕ → ℕ → Bool
 late c t i = late_in c t (moment c t) i
+
+abbrev pub late_named : Moment → Option ℕ → Option LateJob
+late_named x None = None
+late_named x (Some i) = Some (record { task = i; job = live_job (next_of x i) })
+
+-- Of several the lowest task number counts.
+abbrev pub late_first : Setting → ℕ → Moment → Option LateJob
+late_first c t x = late_named x (first_such (length c.tasks) (λ i. late_in c t x i))
 
 abbrev pub OnTime : Setting → ℕ → Type 0
 OnTime c t = (i : ℕ) → late c t i ≡ false

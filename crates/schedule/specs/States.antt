@@ -8,10 +8,9 @@
 --     next_of x i                    the number of the next job of task i
 --     start_state                    the state at instant 0
 --     start_moment                   the moment at instant 0
-use Rattle.std.specs.Prelude.{ℕ, List, replicate, None, Option, slice_index, slice_index_or}
+use Rattle.std.specs.Prelude.{ℕ, List, replicate, None, slice_index, slice_index_or}
 use Rattle.delay.specs.Marks.{zero_mark}
 use Rattle.delay.specs.Profiles.{Profile}
-use Rattle.delay.specs.declared.mark.Mark.{Mark}
 use Rattle.dispatch.specs.Rules.{Rule}
 use Rattle.plan.specs.Plans.{tasks_in}
 use Rattle.plan.specs.Tasks.{zero_task}
@@ -19,6 +18,7 @@ use Rattle.plan.specs.declared.admitted.Plan.{Plan}
 use Rattle.plan.specs.declared.tasks.Task.{Task}
 use Rattle.schedule.specs.Jobs.{vacant}
 use Rattle.schedule.specs.declared.slots.Slot.{Slot}
+use Rattle.schedule.specs.declared.states.State as states
 
 -- Nothing else has a say in what happens.
 pub record Setting : Type 0 where
@@ -36,11 +36,8 @@ abbrev pub task_of : Setting → ℕ → Task
 task_of c i = slice_index_or c.tasks i zero_task
 
 -- 16 slots and 16 marks, by task number; those past the last task stay as they are at instant 0.
--- Samples are compared by these three parts, and by nothing else.
-pub record State : Type 0 where
-  pub slots : List Slot
-  pub marks : List Mark
-  pub running : Option ℕ
+abbrev pub State : Type 0
+State = states.State
 
 -- The numbers of jobs and their delays are no part of a state: no tick looks at a delay, and the numbers depend on the instant alone.
 pub record Moment : Type 0 where

@@ -31,3 +31,10 @@ pub struct TickRows {
     /// the job that finishes with it, if one does
     pub job: Option<JobRow>,
 }
+
+/// A job that is late.
+#[derive(Clone, Copy, PartialEq, Eq, Debug)]
+pub struct LateJob {
+    pub task: usize,
+    pub job: u64,
+}

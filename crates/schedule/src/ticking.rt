@@ -4,10 +4,12 @@ ghost use Rattle.std.specs.Prelude.{ℕ, ◌*◌, ◌≤◌};
 ghost use Rattle.schedule.specs.JobTables.{delay_at, slot_at};
 
 mod choosing;
+mod lateness;
 mod opening;
 mod reading;
 mod releasing;
 mod serving;
+mod states;
 mod tick;
 
 use crate::calendar::Calendar;

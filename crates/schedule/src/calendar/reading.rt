@@ -1,6 +1,6 @@
 //! What the calendar says of a task. A number that no task has is read as the task of zeros.
 
-ghost use Rattle.std.specs.Prelude.{◌≡◌, ◌-◌, ◌≤◌, length};
+ghost use Rattle.std.specs.Prelude.{◌≡◌, ◌-◌, ◌≤◌, length, ◌==◌};
 ghost use Rattle.plan.specs.Plans.{tasks_in};
 ghost use Rattle.schedule.specs.Calendars.{next_job};
 ghost use Rattle.schedule.specs.Jobs.{deadline_at, due, live_job, release};
@@ -41,7 +41,7 @@ impl Calendar {
     }
 
     /// The number of the live job of a task.
-    pub(super) fn live_job(&self, task: usize) -> u64
+    pub(crate) fn live_job(&self, task: usize) -> u64
         ensures { result ≡ live_job (next_at self.now task) }
     {
         self.next(task).number.saturating_sub(1)
@@ -52,6 +52,13 @@ impl Calendar {
         ensures { result ≡ deadline_at (task_in self.now task) (live_job (next_at self.now task)) - self.now.clock }
     {
         self.next(task).live_deadline.saturating_sub(self.clock) as u32
+    }
+
+    /// Whether the deadline of the live job of a task is now.
+    pub(crate) fn is_deadline(&self, task: usize) -> bool
+        ensures { result ≡ (self.now.clock == deadline_at (task_in self.now task) (live_job (next_at self.now task))) }
+    {
+        self.clock == self.next(task).live_deadline
     }
 
     /// The instant at which the live job of a task was released.
