@@ -1,3 +1,4 @@
 pub mod Firsts
 pub mod Comparing
 pub mod Examining
+pub mod Knowing
