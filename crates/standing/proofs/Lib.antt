@@ -2,3 +2,4 @@ pub mod Firsts
 pub mod Comparing
 pub mod Examining
 pub mod Knowing
+pub mod Deciding
