@@ -3,3 +3,4 @@ pub mod Comparing
 pub mod Examining
 pub mod Knowing
 pub mod Deciding
+pub mod Closing
