@@ -40,7 +40,8 @@ impl Plan {
 
     /// The least common multiple of the tasks' periods.
     pub fn hyperperiod(&self) -> Hyperperiod
-        ensures { IsLcm result.ticks (periods (tasks_in self.now)) }
+        ensures value { result ≡ self.now.hyperperiod }
+        ensures least { IsLcm result.ticks (periods (tasks_in self.now)) }
     {
         self.hyperperiod
     }

@@ -2,10 +2,11 @@
 
 ghost use Rattle.std.specs.Prelude.{◌≡◌, []};
 ghost use Rattle.schedule.specs.States.{slot_of};
-ghost use Rattle.schedule.specs.Tables.{clock_of, moment_of};
+ghost use Rattle.schedule.specs.Tables.{clock_of, moment_of, tasks_of};
 
 use super::Schedule;
 use crate::slots::Slot;
+use plan::Task;
 
 impl Schedule {
     /// The instant that has been reached.
@@ -13,6 +14,13 @@ impl Schedule {
         ensures { result ≡ clock_of self.now }
     {
         self.calendar.clock()
+    }
+
+    /// The tasks of the plan.
+    pub fn tasks(&self) -> &[Task]
+        ensures { result.now ≡ tasks_of self.now }
+    {
+        self.calendar.tasks()
     }
 
     /// The slot of a task; for a number that no task has, a slot without a live job.

@@ -1,0 +1,2 @@
+pub mod Following
+pub mod Sampling

@@ -1,0 +1,3 @@
+pub mod Followers
+pub mod Written
+pub mod Watches

@@ -1,0 +1,7 @@
+//! A run: the schedule of a plan under a policy and a delay model, followed tick by tick until it is decided.
+
+#![tactic(auto)]
+
+mod follower;
+mod summaries;
+mod watch;
