@@ -1,3 +1,4 @@
 pub mod Followers
 pub mod Written
 pub mod Watches
+pub mod Counts

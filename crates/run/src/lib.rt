@@ -2,6 +2,7 @@
 
 #![tactic(auto)]
 
+mod examining;
 mod follower;
 mod summaries;
 mod watch;

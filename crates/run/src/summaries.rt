@@ -1,1 +1,15 @@
 //! The summaries of the tasks.
+
+ghost use Rattle.std.specs.Prelude.{◌≡◌, length};
+
+mod counting;
+mod table;
+
+use plan::MOST_TASKS;
+use schedule::Summary;
+
+/// The summary of each task, by its number.
+pub struct Summaries {
+    rows: [Summary; MOST_TASKS],
+    ghost sized: { length rows ≡ 16 },
+}
