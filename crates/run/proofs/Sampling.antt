@@ -1,5 +1,5 @@
 -- A watch that has taken the samples before an instant tells what the comparison at that instant shows.
-use Rattle.std.proofs.Common.{◌≡◌, ℕ, zero, suc, ◌+◌, ◌*◌, ◌<◌, ◌≤◌, max, Bool, true, false, cond, ◌&&◌, eqb, leb, ltb, Some, None, Option, refl, sym, ap, ◌∙◌, subst, ⊎_elim, arith}
+use Rattle.std.proofs.Common.{◌≡◌, ℕ, suc, ◌+◌, ◌*◌, ◌<◌, ◌≤◌, max, Bool, true, false, cond, ◌&&◌, eqb, leb, ltb, Some, None, refl, sym, ap, ◌∙◌, ⊎_elim, arith}
 use Rattle.std.proofs.Math.Numerals.{add-one}
 use Rattle.std.proofs.Math.Nat.{le-mul_of_pos_right, mul-le-mul_right}
 use Rattle.std.proofs.lemmas.Bool.{and_from, and_parts, both_ways, cases_Bool, cases_lt, eq-eqb, eqb-true, le-leb, leb-true, lt-ltb}
@@ -11,9 +11,8 @@ use Rattle.run.specs.Watches.{Watching, shown_by, taken_by}
 use Rattle.run.specs.declared.watch.Watch.{Watch}
 use Rattle.schedule.specs.Schedules.{from, sample, state_at}
 use Rattle.schedule.specs.StateLaws.{same_state}
-use Rattle.schedule.specs.States.{Setting, State}
-use Rattle.standing.specs.Standings.{compared, repeats, sample_at}
-use Rattle.standing.specs.declared.events.Event.{Event}
+use Rattle.schedule.specs.States.{Setting}
+use Rattle.standing.specs.Standings.{compared, sample_at}
 use Rattle.standing.specs.declared.events.Event.TheVariants.{Nothing, Repeats}
 use Rattle.standing.proofs.Comparing.{taken_once}
 

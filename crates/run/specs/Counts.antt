@@ -14,6 +14,6 @@ counted rows ys = finished rows.job (delayed rows.switch ys)
 abbrev pub Small : List Summary → Type 0
 Small ys = (i : ℕ) → ((slice_index_or ys i no_summary).finished < 2 ^ 63) × ((slice_index_or ys i no_summary).delay < 2 ^ 63)
 
--- At most one job finishes in a tick, and one delay is answered, which has sixteen bits.
+-- At most one job finishes in a tick, and one delay is answered, of at most 4096 ticks.
 abbrev pub Within : ℕ → List Summary → Type 0
-Within t ys = (i : ℕ) → ((slice_index_or ys i no_summary).finished ≤ t) × ((slice_index_or ys i no_summary).delay ≤ 65536 * t)
+Within t ys = (i : ℕ) → ((slice_index_or ys i no_summary).finished ≤ t) × ((slice_index_or ys i no_summary).delay ≤ 4096 * t)

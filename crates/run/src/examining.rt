@@ -12,7 +12,10 @@ use dispatch::Policy;
 use standing::Event;
 
 /// Takes the sample of the instant at the clock, if there is one, and answers what it shows.
-pub(crate) fn compare<P: Policy, M: DelayModel>(follower: &Follower<P, M>, watch: &mut Watch) -> Event
+pub(crate) fn compare<P: Policy, M: DelayModel>(
+    follower: &Follower<P, M>,
+    watch: &mut Watch,
+) -> Event
     requires { Watching (followed follower.now) (clock_in follower.now) watch.old }
     ensures event { result ≡ compared (followed follower.now) (sample_at (followed follower.now) (clock_in follower.now)) }
     ensures watching { Watching (followed follower.now) (clock_in follower.now + 1) watch.new }
@@ -25,7 +28,10 @@ pub(crate) fn compare<P: Policy, M: DelayModel>(follower: &Follower<P, M>, watch
 }
 
 /// What the instant at the clock shows. A late job comes before what a sample shows.
-pub(crate) fn examine<P: Policy, M: DelayModel>(follower: &Follower<P, M>, watch: &mut Watch) -> Event
+pub(crate) fn examine<P: Policy, M: DelayModel>(
+    follower: &Follower<P, M>,
+    watch: &mut Watch,
+) -> Event
     requires { Watching (followed follower.now) (clock_in follower.now) watch.old }
     ensures event { result ≡ examined (followed follower.now) (clock_in follower.now) }
     ensures watching { Watching (followed follower.now) (clock_in follower.now + 1) watch.new }

@@ -4,5 +4,6 @@
 
 mod examining;
 mod follower;
+mod runs;
 mod summaries;
 mod watch;

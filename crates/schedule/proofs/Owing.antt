@@ -16,7 +16,7 @@ abbrev pub Owing : ℕ → State → Type 0
 Owing b s = (i : ℕ) → (slot_of s i).owed ≤ b
 
 module _ (c : Setting) (small : Small c.profile) where
-  delay_small : (j : ℕ) (s : State) → delay_to c j s ≤ 4096
+  pub delay_small : (j : ℕ) (s : State) → delay_to c j s ≤ 4096
   delay_small j s = go (is_running s j) (slot_of s j).begun where
     go : (r b : Bool) → cond r 0 (cond b (answered c j s) 0) ≤ 4096
     go true b = omega arith

@@ -1,6 +1,6 @@
-use Rattle.std.proofs.Common.{◌≡◌, ◌+◌, ◌<◌, sym, ap, ◌∙◌, subst, arith}
+use Rattle.std.proofs.Common.{◌+◌, ◌<◌, sym, ap, ◌∙◌, subst, arith}
 use Rattle.laws.proofs.Plans.{admitted_plan}
-use Rattle.run.proofs.Sampling.{none_taken, one_shown, still_watching, watching_on}
+use Rattle.run.proofs.Sampling.{none_taken, one_shown, watching_on}
 use Rattle.run.proofs.examining.compare.Goals as goal
 use Rattle.run.specs.Followers.{clock_in, followed}
 use Rattle.run.specs.Watches.{Watching, shown_by, taken_by}

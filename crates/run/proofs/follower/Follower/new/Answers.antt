@@ -1,4 +1,4 @@
-use Rattle.std.proofs.Common.{◌≡◌, ap, ◌∙◌}
+use Rattle.std.proofs.Common.{ap, ◌∙◌}
 use Rattle.run.proofs.Following.{at_start}
 use Rattle.run.proofs.follower.Follower.new.Goals as goal
 use Rattle.schedule.specs.Tables.{moment_of}

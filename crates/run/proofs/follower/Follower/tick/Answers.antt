@@ -12,8 +12,8 @@ invariant_of-self g c =
     let same = c.tick.ensures in
     let marks = g.M.DelayModel.marks after.model in
     let stepped : moment_of after.self marks ≡ moment (followed old) (clock_of after.self) =
-        either c.tick.result _ same.outcome
-        (λ none. absurd (omega (arith, none.0, c.requires)))
-        (λ rows did. onward (followed old) (clock_in old) _ _ _ old.following did.1.after did.0)
+    either c.tick.result _ same.outcome
+    (λ none. absurd (omega (arith, none.0, c.requires)))
+    (λ rows did. onward (followed old) (clock_in old) _ _ _ old.following did.1.after did.0)
     in
     record { following = rw (← same.plan, ← same.same) at stepped }
