@@ -1,3 +1,4 @@
 pub mod Following
 pub mod Sampling
 pub mod Counting
+pub mod Going

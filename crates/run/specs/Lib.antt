@@ -2,3 +2,5 @@ pub mod Followers
 pub mod Written
 pub mod Watches
 pub mod Counts
+pub mod Runs
+pub mod Advances

@@ -2,8 +2,12 @@
 
 #![tactic(auto)]
 
+mod advances;
 mod examining;
 mod follower;
 mod runs;
 mod summaries;
 mod watch;
+
+pub use advances::{Advance, Stop};
+pub use runs::Run;

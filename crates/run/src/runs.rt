@@ -7,6 +7,7 @@ ghost use Rattle.run.specs.Watches.{Watching};
 ghost use Rattle.schedule.specs.Schedules.{summaries};
 ghost use Rattle.standing.specs.Standings.{standing_at};
 
+mod advancing;
 mod stepping;
 
 use crate::follower::Follower;
