@@ -2,3 +2,5 @@ pub mod Following
 pub mod Sampling
 pub mod Counting
 pub mod Going
+pub mod Beginning
+pub mod Living

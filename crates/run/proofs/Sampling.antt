@@ -16,7 +16,7 @@ use Rattle.standing.specs.Standings.{compared, sample_at}
 use Rattle.standing.specs.declared.events.Event.TheVariants.{Nothing, Repeats}
 use Rattle.standing.proofs.Comparing.{taken_once}
 
-compared_first : (n : ℕ) → n ≡ 0 → compared_with n ≡ 0
+pub compared_first : (n : ℕ) → n ≡ 0 → compared_with n ≡ 0
 unfolding compared_with
 compared_first n e = ap compared_with e
 

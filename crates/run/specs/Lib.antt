@@ -4,3 +4,4 @@ pub mod Watches
 pub mod Counts
 pub mod Runs
 pub mod Advances
+pub mod Lives

@@ -8,6 +8,8 @@ ghost use Rattle.schedule.specs.Schedules.{summaries};
 ghost use Rattle.standing.specs.Standings.{standing_at};
 
 mod advancing;
+mod asking;
+mod opening;
 mod stepping;
 
 use crate::follower::Follower;
