@@ -1,0 +1,6 @@
+mod Computing
+mod Admissions
+mod Equalities
+mod Lateness
+mod Periods
+mod AllRight

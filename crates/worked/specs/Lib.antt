@@ -1,0 +1,3 @@
+pub mod WorkedPlans
+pub mod Settings
+pub mod Cases
