@@ -1,84 +1,111 @@
--- The worked cases are right: what is computed of each of them tells that it is.
-use Rattle.std.specs.Prelude.{◌≡◌, ℕ, suc, ◌+◌, ◌*◌, Bool, true, not, ◌&&◌, List, [], ◌∷◌, All, Ok, Err, Option, ◌==◌, refl, slice_index_or}
-use Rattle.std.specs.List.{AllByRecursion}
-use Rattle.std.specs.Option.{option_eq}
-use Rattle.std.proofs.lemmas.Bool.{and_parts, eqb-true, not-true}
-use Rattle.std.proofs.lemmas.List.Elements.{All-cons, All-nil}
-use lib.Pointwise.{pointwise}
+-- The worked cases are right. Schedules and models by a test that is computed, admissions by what is known of plan S.
+use Rattle.std.specs.Prelude.{◌≡◌, suc, ◌+◌, ◌*◌, Bool, true, false, not, ◌&&◌, List, [], ◌∷◌, ◌++◌, All, ◌==◌, refl, slice_index_or}
+use Rattle.std.specs.List.{AllByRecursion, list_all}
+use Rattle.std.proofs.lemmas.Bool.{and_parts, both_ways, eqb-true}
+use Rattle.std.proofs.lemmas.List.Elements.{All-append, All-cons, All-nil}
+use Rattle.std.proofs.lemmas.List.Sums.{AllPass-from_list_all}
 use Rattle.delay.specs.MarkLaws.{mark_eq}
 use Rattle.delay.specs.Marks.{changed, keeping, zero_mark}
-use Rattle.fault.specs.declared.Layer.TheVariants.{Bytes}
-use Rattle.plan.specs.Admission.{admission, fault}
 use Rattle.plan.specs.Tasks.{periods}
 use Rattle.schedule.specs.Schedules.{from, sample, summaries}
-use Rattle.schedule.specs.SlotLaws.{slot_eq}
-use Rattle.schedule.specs.States.{Setting}
-use Rattle.worked.specs.Cases.{Case, Right, cases}
-use Rattle.worked.specs.Cases.Case.{misses, holds, differ_in_kept, differ_in_running, resumes, admitted, refused}
-use Rattle.worked.proofs.Admissions.{cut_refused, longer_refused, s_admitted}
+use Rattle.worked.specs.Cases.{Case, Right, admission_cases, cases, model_cases, schedule_cases}
+use Rattle.worked.specs.Cases.Case.{admitted, differ_in_kept, differ_in_running, holds, misses, refused, resumes}
+use Rattle.worked.proofs.Admissions.{cut_refused, empty_refused, longer_refused, s_admitted}
 use Rattle.worked.proofs.Computing.{schedules}
-use Rattle.worked.proofs.Equalities.{other_number, other_task, same_marks, same_slots, same_state, same_task, state_eq}
+use Rattle.worked.proofs.Equalities.{marks_eq, other_number, other_task, same_mark, same_marks, same_slots, same_state, same_summaries, same_task, slots_eq, state_eq, summaries_eq, task_eq}
 use Rattle.worked.proofs.Lateness.{first_late, late_first, on_time_to, quiet_before}
 use Rattle.worked.proofs.Periods.{is_lcm, lcm_among}
 
-abbrev misses_test : Setting → ℕ → ℕ → ℕ → Bool
-misses_test c t i m = lcm_among c.hyperperiod (periods c.tasks) && late_first c t i m
-
-abbrev holds_test : Setting → ℕ → ℕ → ℕ → Bool
-holds_test c t k i =
+-- part by part as in `Right`; admissions have no test, since they are not found by computing alone
+abbrev test : Case → Bool
+test (misses c t i m ys) = lcm_among c.hyperperiod (periods c.tasks) && (late_first c t i m && summaries_eq (summaries c t) ys)
+test (holds c t k i ys) =
     lcm_among c.hyperperiod (periods c.tasks)
-    && (t == from c + k * c.hyperperiod && (state_eq (sample c k) (sample c i) && quiet_before c (suc t)))
+    && (t == from c + k * c.hyperperiod && (state_eq (sample c k) (sample c i) && (quiet_before c (suc t) && summaries_eq (summaries c t) ys)))
+test (differ_in_kept c i k j a b) =
+    slots_eq (sample c i).slots (sample c k).slots
+    && (task_eq (sample c i).running (sample c k).running
+    && ((slice_index_or (sample c i).marks j zero_mark).kept.lines == a
+    && (marks_eq (sample c k).marks (changed (sample c i).marks j (keeping b)) && not (a == b))))
+test (differ_in_running c i k a b) =
+    slots_eq (sample c i).slots (sample c k).slots
+    && (marks_eq (sample c i).marks (sample c k).marks
+    && (task_eq (sample c i).running a && (task_eq (sample c k).running b && not (task_eq a b))))
+test (resumes p i k d after) = p.answer i k == d && mark_eq (p.resume i k) after
+test (admitted bs c) = false
+test (refused bs cause row bit) = false
 
-abbrev kept_test : Setting → ℕ → ℕ → ℕ → ℕ → ℕ → Bool
-kept_test c i k j a b =
-    pointwise slot_eq (sample c i).slots (sample c k).slots
-    && (option_eq (λ x y. x == y) (sample c i).running (sample c k).running
-    && (pointwise mark_eq (sample c k).marks (changed (sample c i).marks j (keeping b)) && not (a == b)))
+told : (case : Case) → test case ≡ true → Right case
+told (misses c t i m ys) h =
+    let x = and_parts (lcm_among c.hyperperiod (periods c.tasks)) _ h in
+    let y = and_parts (late_first c t i m) _ x.1 in
+    record {
+      hyperperiod = is_lcm _ _ x.0;
+      first = first_late c t i m y.0;
+      summed = same_summaries _ _ y.1;
+    }
+told (holds c t k i ys) h =
+    let x = and_parts (lcm_among c.hyperperiod (periods c.tasks)) _ h in
+    let y = and_parts (t == from c + k * c.hyperperiod) _ x.1 in
+    let z = and_parts (state_eq (sample c k) (sample c i)) _ y.1 in
+    let w = and_parts (quiet_before c (suc t)) _ z.1 in
+    record {
+      hyperperiod = is_lcm _ _ x.0;
+      instant = eqb-true t _ y.0;
+      equal = same_state _ _ z.0;
+      on_time = on_time_to c t w.0;
+      summed = same_summaries _ _ w.1;
+    }
+told (differ_in_kept c i k j a b) h =
+    let x = and_parts (slots_eq (sample c i).slots (sample c k).slots) _ h in
+    let y = and_parts (task_eq (sample c i).running (sample c k).running) _ x.1 in
+    let z = and_parts ((slice_index_or (sample c i).marks j zero_mark).kept.lines == a) _ y.1 in
+    let w = and_parts (marks_eq (sample c k).marks (changed (sample c i).marks j (keeping b))) _ z.1 in
+    record {
+      slots = same_slots _ _ x.0;
+      running = same_task _ _ y.0;
+      before = eqb-true _ a z.0;
+      after = same_marks _ _ w.0;
+      apart = other_number a b w.1;
+    }
+told (differ_in_running c i k a b) h =
+    let x = and_parts (slots_eq (sample c i).slots (sample c k).slots) _ h in
+    let y = and_parts (marks_eq (sample c i).marks (sample c k).marks) _ x.1 in
+    let z = and_parts (task_eq (sample c i).running a) _ y.1 in
+    let w = and_parts (task_eq (sample c k).running b) _ z.1 in
+    record {
+      slots = same_slots _ _ x.0;
+      marks = same_marks _ _ y.0;
+      before = same_task _ a z.0;
+      after = same_task _ b w.0;
+      apart = other_task a b w.1;
+    }
+told (resumes p i k d after) h =
+    let x = and_parts (p.answer i k == d) _ h in
+    (eqb-true _ d x.0, same_mark _ after x.1)
+told (admitted bs c) h = absurd (both_ways _ refl h)
+told (refused bs cause row bit) h = absurd (both_ways _ refl h)
 
-abbrev running_test : Setting → ℕ → ℕ → Option ℕ → Option ℕ → Bool
-running_test c i k a b =
-    pointwise slot_eq (sample c i).slots (sample c k).slots
-    && (pointwise mark_eq (sample c i).marks (sample c k).marks && not (option_eq (λ x y. x == y) a b))
+all_told : (ks : List Case) → list_all test ks ≡ true → All Right ks
+all_told ks h k d l = told (slice_index_or ks k d) (AllPass-from_list_all test ks h k d l)
 
--- a test compares states without unfolding both sides by turns; the rest is compared as it stands
-abbrev Passes : Case → Type 0
-Passes (misses c t i m ys) = (misses_test c t i m ≡ true) × (summaries c t ≡ ys)
-Passes (holds c t k i ys) = (holds_test c t k i ≡ true) × (summaries c t ≡ ys)
-Passes (differ_in_kept c i k j a b) = (kept_test c i k j a b ≡ true) × ((slice_index_or (sample c i).marks j zero_mark).kept.lines ≡ a)
-Passes (differ_in_running c i k a b) = (running_test c i k a b ≡ true) × ((sample c i).running ≡ a) × ((sample c k).running ≡ b)
-Passes (resumes p i k d after) = (p.answer i k ≡ d) × (p.resume i k ≡ after)
-Passes (admitted bs c) = admission bs ≡ Ok c
-Passes (refused bs cause row bit) = admission bs ≡ Err (fault Bytes cause row bit)
-
-right : (case : Case) → Passes case → Right case
-right (misses c t i m ys) (h, e) =
-    let parts = and_parts (lcm_among c.hyperperiod (periods c.tasks)) _ h in
-    (is_lcm _ _ parts.0, first_late c t i m parts.1, e)
-right (holds c t k i ys) (h, e) =
-    let first = and_parts (lcm_among c.hyperperiod (periods c.tasks)) _ h in
-    let second = and_parts (t == from c + k * c.hyperperiod) _ first.1 in
-    let third = and_parts (state_eq (sample c k) (sample c i)) _ second.1 in
-    (is_lcm _ _ first.0, eqb-true t _ second.0, same_state _ _ third.0, on_time_to c t third.1, e)
-right (differ_in_kept c i k j a b) (h, e) =
-    let first = and_parts (pointwise slot_eq (sample c i).slots (sample c k).slots) _ h in
-    let second = and_parts (option_eq (λ x y. x == y) (sample c i).running (sample c k).running) _ first.1 in
-    let third = and_parts (pointwise mark_eq (sample c k).marks (changed (sample c i).marks j (keeping b))) _ second.1 in
-    (same_slots _ _ first.0, same_task _ _ second.0, e, same_marks _ _ third.0, other_number a b (not-true _ third.1))
-right (differ_in_running c i k a b) (h, e, f) =
-    let first = and_parts (pointwise slot_eq (sample c i).slots (sample c k).slots) _ h in
-    let second = and_parts (pointwise mark_eq (sample c i).marks (sample c k).marks) _ first.1 in
-    (same_slots _ _ first.0, same_marks _ _ second.0, e, f, other_task a b (not-true _ second.1))
-right (resumes p i k d after) h = h
-right (admitted bs c) h = h
-right (refused bs cause row bit) h = h
-
-each_right : (ks : List Case) → AllByRecursion Passes ks → All Right ks
-each_right [] h = All-nil Right
-each_right (k ∷ ks) h = All-cons Right k ks (right k h.0) (each_right ks h.1)
-
-each_passes : AllByRecursion Passes cases
+schedules_pass : list_all test schedule_cases ≡ true
 unfolding schedules
-each_passes = ((refl, refl), ((refl, refl), ((refl, refl), ((refl, refl), ((refl, refl), ((refl, refl), ((refl, refl), ((refl, refl), ((refl, refl), ((refl, refl), ((refl, refl), ((refl, refl), ((refl, refl), ((refl, refl), ((refl, refl), ((refl, refl), ((refl, refl), ((refl, refl), ((refl, refl), ((refl, refl), ((refl, refl), ((refl, refl), ((refl, refl), ((refl, refl), ((refl, refl), ((refl, refl), ((refl, refl, refl), ((refl, refl), (s_admitted, (refl, (cut_refused, (longer_refused, tt))))))))))))))))))))))))))))))))
+schedules_pass = refl
+
+models_pass : list_all test model_cases ≡ true
+unfolding schedules
+models_pass = refl
+
+all_each : (ks : List Case) → AllByRecursion Right ks → All Right ks
+all_each [] h = All-nil Right
+all_each (k ∷ ks) h = All-cons Right k ks h.0 (all_each ks h.1)
+
+admissions_right : All Right admission_cases
+admissions_right = all_each admission_cases (empty_refused, (cut_refused, (s_admitted, (longer_refused, tt))))
 
 pub all_right : All Right cases
-all_right = each_right cases each_passes
+all_right =
+    All-append Right schedule_cases (model_cases ++ admission_cases)
+    (all_told schedule_cases schedules_pass)
+    (All-append Right model_cases admission_cases (all_told model_cases models_pass) admissions_right)

@@ -1,10 +1,10 @@
 -- The worked cases. Assumes nothing.
 --     Case                  what is said of a schedule, of a delay model, or of the bytes of a plan
---     whole c               the hyperperiod of the setting c is that of its tasks
+--     Misses, Holds, DifferInKept, DifferInRunning      what is right of a schedule
 --     Right case            that it is so, in the words of the schedule, the models and admission
 --     tally f w d           the summary of a task with f finished jobs, worst response w and total delay d
 --     mark s n              the mark that keeps the lines s and has the credit n
---     plan_answer           a plan of one task with two useful lines
+--     plan_answer           the plan of the case of the loaded-blocks model
 --     schedule_cases, model_cases, admission_cases      the cases by what they speak of
 --     cases                 all of them
 use Rattle.std.specs.Prelude.{◌≡◌, ℕ, ◌+◌, ◌*◌, List, [], ◌∷◌, ◌++◌, take, Some, None, Ok, Err, Option, ◌≢◌, slice_index_or}
@@ -24,53 +24,76 @@ use Rattle.schedule.specs.States.{Setting}
 use Rattle.worked.specs.Settings.{by_deadline, by_priority, no_delays, non_preemptive, under}
 use Rattle.worked.specs.WorkedPlans.{bytes_s, line, no_line, plan_credit, plan_kept, plan_nested, plan_next, plan_one, plan_running, plan_s, plan_two, task}
 
--- The first two are named for the report that says so.
+-- Of a schedule c, but for the last three. The first two are named for the report that says so.
 pub data Case : Type 0 where
-  -- t i m: job m of task i is the first late job, at instant t, and these are the summaries there
+  -- c t i m ys: job m of task i is the first late job, at instant t, and ys are the summaries there
   misses : Setting → ℕ → ℕ → ℕ → List Summary → Case
-  -- t k i: sample k, at instant t, equals sample i, no job is late up to there, and these are the summaries there
+  -- c t k i ys: sample k, at instant t, equals sample i, no job is late up to there, and ys are the summaries there
   holds : Setting → ℕ → ℕ → ℕ → List Summary → Case
-  -- i k j a b: samples i and k are the same, but that task j keeps the lines a in the one and b in the other
+  -- c i k j a b: samples i and k are the same, but that task j keeps the lines a in the one and b in the other
   differ_in_kept : Setting → ℕ → ℕ → ℕ → ℕ → ℕ → Case
-  -- i k a b: samples i and k are the same, but that a is running in the one and b in the other
+  -- c i k a b: samples i and k are the same, but that a is running in the one and b in the other
   differ_in_running : Setting → ℕ → ℕ → Option ℕ → Option ℕ → Case
-  -- i k d after: a resume of task i with the mark k answers d, and leaves the mark `after`
+  -- p i k d after: under the profile p, a resume of task i with the mark k answers d and leaves the mark `after`
   resumes : Profile → ℕ → Mark → ℕ → Mark → Case
   -- the bytes are admitted as this plan
   admitted : List ℕ → Content → Case
   -- the bytes are refused in layer B, with this cause, row and bit
   refused : List ℕ → Cause → Option ℕ → Option ℕ → Case
 
-abbrev pub whole : Setting → Type 0
-whole c = IsLcm c.hyperperiod (periods c.tasks)
+-- The hyperperiod of a setting is that of its tasks.
+pub record Misses (c : Setting) (t i m : ℕ) (ys : List Summary) : Type 0 where
+  pub hyperperiod : IsLcm c.hyperperiod (periods c.tasks)
+  pub first : FirstLate c t i m
+  pub summed : summaries c t ≡ ys
 
--- By the definitions alone: no code of the planner is run.
+-- Nothing is late at the instant of the sample itself, either.
+pub record Holds (c : Setting) (t k i : ℕ) (ys : List Summary) : Type 0 where
+  pub hyperperiod : IsLcm c.hyperperiod (periods c.tasks)
+  pub instant : t ≡ from c + k * c.hyperperiod
+  pub equal : sample c k ≡ sample c i
+  pub on_time : OnTimeTo c t
+  pub summed : summaries c t ≡ ys
+
+-- All parts of a state are named, so nothing else differs.
+pub record DifferInKept (c : Setting) (i k j a b : ℕ) : Type 0 where
+  pub slots : (sample c i).slots ≡ (sample c k).slots
+  pub running : (sample c i).running ≡ (sample c k).running
+  pub before : (slice_index_or (sample c i).marks j zero_mark).kept.lines ≡ a
+  pub after : (sample c k).marks ≡ changed (sample c i).marks j (keeping b)
+  pub apart : a ≢ b
+
+-- Here too.
+pub record DifferInRunning (c : Setting) (i k : ℕ) (a b : Option ℕ) : Type 0 where
+  pub slots : (sample c i).slots ≡ (sample c k).slots
+  pub marks : (sample c i).marks ≡ (sample c k).marks
+  pub before : (sample c i).running ≡ a
+  pub after : (sample c k).running ≡ b
+  pub apart : a ≢ b
+
+-- By the definitions alone: no code of the planner has a part in it.
 abbrev pub Right : Case → Type 0
-Right (misses c t i m ys) = whole c × FirstLate c t i m × (summaries c t ≡ ys)
-Right (holds c t k i ys) =
-    whole c × (t ≡ from c + k * c.hyperperiod) × (sample c k ≡ sample c i) × OnTimeTo c t × (summaries c t ≡ ys)
-Right (differ_in_kept c i k j a b) =
-    ((sample c i).slots ≡ (sample c k).slots) × ((sample c i).running ≡ (sample c k).running)
-    × ((slice_index_or (sample c i).marks j zero_mark).kept.lines ≡ a)
-    × ((sample c k).marks ≡ changed (sample c i).marks j (keeping b)) × (a ≢ b)
-Right (differ_in_running c i k a b) =
-    ((sample c i).slots ≡ (sample c k).slots) × ((sample c i).marks ≡ (sample c k).marks)
-    × ((sample c i).running ≡ a) × ((sample c k).running ≡ b) × (a ≢ b)
+Right (misses c t i m ys) = Misses c t i m ys
+Right (holds c t k i ys) = Holds c t k i ys
+Right (differ_in_kept c i k j a b) = DifferInKept c i k j a b
+Right (differ_in_running c i k a b) = DifferInRunning c i k a b
 Right (resumes p i k d after) = (p.answer i k ≡ d) × (p.resume i k ≡ after)
 Right (admitted bs c) = admission bs ≡ Ok c
 Right (refused bs cause row bit) = admission bs ≡ Err (fault Bytes cause row bit)
 
+-- In the order of a report's line.
 abbrev pub tally : ℕ → ℕ → ℕ → Summary
 tally f w d = record { finished = f; worst = w; delay = d }
 
+-- Some lines, and a credit in ticks.
 abbrev pub mark : ℕ → ℕ → Mark
 mark s n = record { kept = record { lines = s }; credit = n }
 
--- A line takes 3 ticks to reload.
+-- One task with the useful lines 1 and 2, each of which takes 3 ticks to reload.
 abbrev pub plan_answer : Content
 plan_answer = record { reload = 3; tasks = task 0 9 9 1 0 0 (line 1 + line 2) (line 1 + line 2) ∷ [] }
 
--- Plan S first.
+-- Plan S under all sixteen orders, then the other plans.
 abbrev pub schedule_cases : List Case
 schedule_cases =
     holds (under (plan_s 0) 12 by_priority loaded_blocks) 13 1 0 (tally 2 2 0 ∷ tally 1 12 3 ∷ [])
@@ -102,18 +125,19 @@ schedule_cases =
     ∷ differ_in_running (under plan_running 12 by_priority useful_blocks) 0 1 (Some 3) None
     ∷ []
 
--- Credit for one line of two.
+-- Both useful lines are missing, and the credit is enough for one.
 abbrev pub model_cases : List Case
 model_cases = resumes (loaded_blocks plan_answer) 0 (mark no_line 5) 3 (mark (line 1 + line 2) 2) ∷ []
 
--- The two causes are the refusals 1 and 2.
+-- Ends early is refusal 1, extra bytes refusal 2.
 abbrev pub admission_cases : List Case
 admission_cases =
-    admitted bytes_s (plan_s 0)
-    ∷ refused [] EndsEarly None (Some 0)
+    refused [] EndsEarly None (Some 0)
     ∷ refused (take 59 bytes_s) EndsEarly (Some 1) (Some 472)
+    ∷ admitted bytes_s (plan_s 0)
     ∷ refused (bytes_s ++ (0 ∷ [])) ExtraBytes None (Some 480)
     ∷ []
 
+-- In the order of the page of worked cases.
 abbrev pub cases : List Case
 cases = schedule_cases ++ (model_cases ++ admission_cases)

@@ -20,7 +20,7 @@ under c h rule model = record { tasks = c.tasks; rule = rule c; profile = model 
 abbrev pub by_priority : Content → Rule
 by_priority c = fixed_priority (priority_table c.tasks)
 
--- Whatever the plan.
+-- The same rule for every plan.
 abbrev pub by_deadline : Content → Rule
 by_deadline c = earliest_deadline
 
@@ -28,6 +28,6 @@ by_deadline c = earliest_deadline
 abbrev pub non_preemptive : (Content → Rule) → Content → Rule
 non_preemptive rule c = keeping (rule c)
 
--- Whatever the plan.
+-- The same profile for every plan.
 abbrev pub no_delays : Content → Profile
 no_delays c = no_delay

@@ -13,6 +13,7 @@ use Rattle.plan.specs.declared.tasks.Task.{Task}
 abbrev pub line : ℕ → ℕ
 line l = 2 ^ (63 - l)
 
+-- No bit is set.
 abbrev pub no_line : ℕ
 no_line = 0
 
