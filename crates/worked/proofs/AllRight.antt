@@ -12,7 +12,8 @@ use Rattle.worked.specs.Cases.{Case, Right, admission_cases, cases, model_cases,
 use Rattle.worked.specs.Cases.Case.{admitted, differ_in_kept, differ_in_running, holds, misses, refused, resumes}
 use Rattle.worked.proofs.Admissions.{cut_refused, empty_refused, longer_refused, s_admitted}
 use Rattle.worked.proofs.Computing.{schedules}
-use Rattle.worked.proofs.Equalities.{marks_eq, other_number, other_task, same_mark, same_marks, same_slots, same_state, same_summaries, same_task, slots_eq, state_eq, summaries_eq, task_eq}
+use Rattle.schedule.specs.StateLaws.{equal_same, same_state}
+use Rattle.worked.proofs.Equalities.{marks_eq, other_number, other_task, same_mark, same_marks, same_slots, same_summaries, same_task, slots_eq, summaries_eq, task_eq}
 use Rattle.worked.proofs.Lateness.{first_late, late_first, on_time_to, quiet_before}
 use Rattle.worked.proofs.Periods.{is_lcm, lcm_among}
 
@@ -21,7 +22,7 @@ abbrev test : Case → Bool
 test (misses c t i m ys) = lcm_among c.hyperperiod (periods c.tasks) && (late_first c t i m && summaries_eq (summaries c t) ys)
 test (holds c t k i ys) =
     lcm_among c.hyperperiod (periods c.tasks)
-    && (t == from c + k * c.hyperperiod && (state_eq (sample c k) (sample c i) && (quiet_before c (suc t) && summaries_eq (summaries c t) ys)))
+    && (t == from c + k * c.hyperperiod && (same_state (sample c k) (sample c i) && (quiet_before c (suc t) && summaries_eq (summaries c t) ys)))
 test (differ_in_kept c i k j a b) =
     slots_eq (sample c i).slots (sample c k).slots
     && (task_eq (sample c i).running (sample c k).running
@@ -47,12 +48,12 @@ told (misses c t i m ys) h =
 told (holds c t k i ys) h =
     let x = and_parts (lcm_among c.hyperperiod (periods c.tasks)) _ h in
     let y = and_parts (t == from c + k * c.hyperperiod) _ x.1 in
-    let z = and_parts (state_eq (sample c k) (sample c i)) _ y.1 in
+    let z = and_parts (same_state (sample c k) (sample c i)) _ y.1 in
     let w = and_parts (quiet_before c (suc t)) _ z.1 in
     record {
       hyperperiod = is_lcm _ _ x.0;
       instant = eqb-true t _ y.0;
-      equal = same_state _ _ z.0;
+      equal = (equal_same _ _).0 z.0;
       on_time = on_time_to c t w.0;
       summed = same_summaries _ _ w.1;
     }

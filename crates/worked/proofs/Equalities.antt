@@ -7,9 +7,8 @@ use Rattle.std.proofs.lemmas.Bool.Decides.{Decides-eqb}
 use lib.Pointwise.{pointwise, pointwise_decides}
 use Rattle.delay.specs.MarkLaws as marks
 use Rattle.delay.specs.declared.mark.Mark.{Mark}
-use Rattle.schedule.specs.Rows.{Summary}
+use Rattle.schedule.specs.declared.summaries.Summary.{Summary}
 use Rattle.schedule.specs.SlotLaws as slots
-use Rattle.schedule.specs.States.{State}
 use Rattle.schedule.specs.declared.slots.Slot.{Slot}
 
 -- ---- numbers and tasks
@@ -33,7 +32,7 @@ own_task (Some x) = (Decides-eqb x x).1 refl
 pub other_task : (a b : Option ℕ) → not (task_eq a b) ≡ true → a ≢ b
 other_task a b h e = both_ways _ (subst (λ (z : Option ℕ). task_eq a z ≡ false) (sym e) (not-true _ h)) (own_task a)
 
--- ---- states
+-- ---- parts of states
 
 abbrev pub slots_eq : List Slot → List Slot → Bool
 slots_eq xs ys = pointwise slots.slot_eq xs ys
@@ -49,18 +48,6 @@ marks_eq xs ys = pointwise marks.mark_eq xs ys
 
 pub same_marks : (xs ys : List Mark) → marks_eq xs ys ≡ true → xs ≡ ys
 same_marks xs ys = (pointwise_decides marks.equal_same xs ys).0
-
-abbrev pub state_eq : State → State → Bool
-state_eq a b = slots_eq a.slots b.slots && (marks_eq a.marks b.marks && task_eq a.running b.running)
-
-pub same_state : (a b : State) → state_eq a b ≡ true → a ≡ b
-same_state a b h =
-    let first = and_parts (slots_eq a.slots b.slots) _ h in
-    let rest = and_parts (marks_eq a.marks b.marks) _ first.1 in
-    let s = same_slots a.slots b.slots first.0 in
-    let m = same_marks a.marks b.marks rest.0 in
-    let r = same_task a.running b.running rest.1 in
-    λ i. record { slots = s i; marks = m i; running = r i }
 
 -- ---- summaries
 

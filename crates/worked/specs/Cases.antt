@@ -18,7 +18,7 @@ use Rattle.fault.specs.declared.Layer.TheVariants.{Bytes}
 use Rattle.plan.specs.Admission.{Content, admission, fault}
 use Rattle.plan.specs.Periods.{IsLcm}
 use Rattle.plan.specs.Tasks.{periods}
-use Rattle.schedule.specs.Rows.{Summary}
+use Rattle.schedule.specs.declared.summaries.Summary.{Summary}
 use Rattle.schedule.specs.Schedules.{FirstLate, OnTimeTo, from, sample, summaries}
 use Rattle.schedule.specs.States.{Setting}
 use Rattle.worked.specs.Settings.{by_deadline, by_priority, no_delays, non_preemptive, under}
