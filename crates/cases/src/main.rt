@@ -6,7 +6,7 @@
 ghost use Rattle.std.specs.Prelude.{◌<◌, IfSome};
 
 use anyhow::Context;
-use report::{LONGEST_REPORT, whole_report};
+use planning::{LONGEST_REPORT, whole_report};
 use std::alloc::{AllocError, Global};
 use std::io::{BufRead, BufReader, Write};
 

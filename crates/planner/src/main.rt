@@ -2,7 +2,7 @@
 
 #![tactic(auto)]
 
-use report::{LONGEST_REPORT, whole_report};
+use planning::{LONGEST_REPORT, whole_report};
 use std::io;
 use std::io::{Read, Write};
 

@@ -1,3 +1,3 @@
 mod Taking
-mod Puts
+pub mod Puts
 mod Sinks

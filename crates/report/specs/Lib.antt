@@ -3,4 +3,3 @@ pub mod Words
 pub mod Sinks
 pub mod Reports
 pub mod Texts
-pub mod Inputs

@@ -1,26 +1,28 @@
 -- What a report says. Assumes nothing.
---     standing_line standing            the first line: how the run stands, and at which instant
---     task_words summary                the words after a task's number
---     task_line task summary            the line of one task
---     task_lines first summaries        a line for each task, numbered upwards from the first
---     opened_text standing summaries    the whole report of a run
---     place_of place                    a row or a bit of a refusal, or the dash for one that it does not name
---     refusal_words fault               the words after REFUSED
---     refused_line fault                the one line of a refusal
+--     standing_line standing clock              the first line: how a run stands that has reached the clock
+--     task_words summary                        the words after a task's number
+--     task_line task summary                    the line of one task
+--     task_lines first summaries                a line for each task, numbered upwards from the first
+--     standing_text standing clock summaries    the whole report of a run
+--     place_of place                            a row or a bit of a refusal, or the dash for one that it does not name
+--     refusal_words fault                       the words after REFUSED
+--     refused_line fault                        the one line of a refusal
 use Rattle.std.specs.Prelude.{ℕ, ◌+◌, List, [], ◌∷◌, ◌++◌, Some, None, Option}
 use Rattle.fault.specs.declared.Fault.{Fault}
 use Rattle.fault.specs.Numbers.{number_of}
-use Rattle.report.specs.declared.standing.Standing.{Standing}
-use Rattle.report.specs.declared.standing.Standing.TheVariants.{Open}
-use Rattle.report.specs.declared.summary.Summary.{Summary}
 use Rattle.report.specs.declared.word.Word.{Word}
 use Rattle.report.specs.declared.word.Word.TheVariants as words
 use Rattle.report.specs.declared.word.Word.TheVariants.{Number, Layer, Refused, Absent}
 use Rattle.report.specs.Words.{line}
+use Rattle.schedule.specs.declared.summaries.Summary.{Summary}
+use Rattle.standing.specs.declared.standings.Standing.{Standing}
+use Rattle.standing.specs.declared.standings.Standing.TheVariants.{Open, Misses, Holds}
 
--- OPEN and the instant that was reached.
-abbrev pub standing_line : Standing → List ℕ
-standing_line (Open instant) = line words.Open (Number instant ∷ [])
+-- OPEN tells the clock, the others what they carry: the instant first.
+abbrev pub standing_line : Standing → ℕ → List ℕ
+standing_line Open clock = line words.Open (Number clock ∷ [])
+standing_line (Misses instant task job) clock = line words.Misses (Number instant ∷ Number task ∷ Number job ∷ [])
+standing_line (Holds instant sample earlier) clock = line words.Holds (Number instant ∷ Number sample ∷ Number earlier ∷ [])
 
 -- How many jobs of the task finished, their worst response time, and the delay of them all.
 abbrev pub task_words : Summary → List Word
@@ -36,8 +38,8 @@ task_lines first [] = []
 task_lines first (summary ∷ summaries) = task_line first summary ++ task_lines (first + 1) summaries
 
 -- The standing first, then the tasks from number 0.
-abbrev pub opened_text : Standing → List Summary → List ℕ
-opened_text standing summaries = standing_line standing ++ task_lines 0 summaries
+abbrev pub standing_text : Standing → ℕ → List Summary → List ℕ
+standing_text standing clock summaries = standing_line standing clock ++ task_lines 0 summaries
 
 -- A place is its number, and - where there is none.
 abbrev pub place_of : Option ℕ → Word

@@ -8,10 +8,12 @@ use Prim.Native.Char.{code}
 use Rattle.std.specs.List.{flat_map}
 use Rattle.fault.specs.Numbers.{letter_of}
 use Rattle.report.specs.declared.word.Word.{Word}
-use Rattle.report.specs.declared.word.Word.TheVariants.{Open, Refused, Number, Layer, Absent}
+use Rattle.report.specs.declared.word.Word.TheVariants.{Holds, Misses, Open, Refused, Number, Layer, Absent}
 
 -- A number is written in decimal, a layer by its letter, and a place that there is not by a dash.
 abbrev pub text_of : Word → List ℕ
+text_of Holds = codes "HOLDS"
+text_of Misses = codes "MISSES"
 text_of Open = codes "OPEN"
 text_of Refused = codes "REFUSED"
 text_of (Number n) = decimal n

@@ -1,17 +1,14 @@
-//! From an input to its report: the order line, admission, and the text of the answer.
+//! The text of a report: how a run stands and what its tasks did, or a refusal.
 
 #![tactic(auto)]
 
 mod line;
 mod refusal;
 mod sink;
-mod standing;
+mod standings;
 mod summary;
 mod text;
-mod whole;
 mod word;
 
 pub use refusal::write_refusal;
-pub use standing::{Standing, write_standing};
-pub use summary::Summary;
-pub use whole::{LONGEST_REPORT, report_on, whole_report};
+pub use standings::write_standing;

@@ -12,12 +12,7 @@ use fault::Fault;
 pub fn write_refusal(out: &mut [u8], fault: Fault) -> Result<usize, Fault>
     ensures { Written 105 (refused_line fault) out.old out.new result }
 {
-    let text = Text {
-        first: Word::Refused,
-        words: &refusal_words(fault),
-        tasks: &[],
-    };
-    text.write(out)
+    Text::new(Word::Refused, &refusal_words(fault), &[]).write(out)
 }
 
 fn refusal_words(fault: Fault) -> [Word; 4]

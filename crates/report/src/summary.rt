@@ -7,14 +7,7 @@ ghost use Rattle.report.specs.Reports.{task_words, task_lines};
 use crate::line::put_line;
 use crate::sink::Sink;
 use crate::word::Word;
-
-/// What a run tells of one task: its finished jobs, their worst response time, and the delay of them all.
-#[derive(Clone, Copy, Default, PartialEq, Eq, Debug)]
-pub struct Summary {
-    pub finished: u64,
-    pub worst: u64,
-    pub delay: u64,
-}
+use schedule::Summary;
 
 fn task_words(summary: Summary) -> [Word; 3]
     ensures { result ≡ task_words summary }

@@ -9,9 +9,10 @@ use crate::line::put_line;
 use crate::sink::Sink;
 use crate::sink::lent::Lent;
 use crate::sink::room::Room;
-use crate::summary::{Summary, put_tasks};
+use crate::summary::put_tasks;
 use crate::word::Word;
 use fault::{Cause, Fault, Layer};
+use schedule::Summary;
 
 /// What a report says: a line of words, and a line for each task.
 #[derive(Clone, Copy)]
@@ -21,7 +22,19 @@ pub(crate) struct Text<'a> {
     pub(crate) tasks: &'a [Summary],
 }
 
-impl Text<'_> {
+impl<'a> Text<'a> {
+    pub(crate) fn new(first: Word, words: &'a [Word], tasks: &'a [Summary]) -> Self
+        ensures first { result.first ≡ first }
+        ensures words { result.words.now ≡ words.now }
+        ensures tasks { result.tasks.now ≡ tasks.now }
+    {
+        Text {
+            first,
+            words,
+            tasks,
+        }
+    }
+
     fn put<S: Sink>(&self, sink: &mut S)
         ensures { Takes S.took (most_of self.now) (whole_text self.now) sink.old sink.new }
     {

@@ -11,6 +11,8 @@ use itoa::Buffer;
 /// One word of a line.
 #[derive(Clone, Copy, PartialEq, Eq, Debug)]
 pub(crate) enum Word {
+    Holds,
+    Misses,
     Open,
     Refused,
     Number(u64),
@@ -23,6 +25,8 @@ pub(crate) fn put_word<S: Sink>(sink: &mut S, word: Word)
     ensures { Takes S.took 20 (text_of word) sink.old sink.new }
 {
     match word {
+        Word::Holds => sink.put(b"HOLDS"),
+        Word::Misses => sink.put(b"MISSES"),
         Word::Open => sink.put(b"OPEN"),
         Word::Refused => sink.put(b"REFUSED"),
         Word::Number(n) => sink.put(Buffer::new().format(n).as_bytes()),

@@ -2,8 +2,14 @@ use Rattle.std.proofs.Common.{length, ap, rules, arith}
 use Rattle.report.proofs.Taking.{takes_piece}
 use Rattle.report.proofs.word.put_word.Goals as goal
 
+pub returns-in-Holds : goal.returns-in-Holds
+returns-in-Holds g c = takes_piece c.put.ensures (search rules) (omega arith)
+
+pub returns-in-Misses : goal.returns-in-Misses
+returns-in-Misses g c = takes_piece c.put-in-Misses.ensures (search rules) (omega arith)
+
 pub returns-in-Open : goal.returns-in-Open
-returns-in-Open g c = takes_piece c.put.ensures (search rules) (omega arith)
+returns-in-Open g c = takes_piece c.put-in-Open.ensures (search rules) (omega arith)
 
 pub returns-in-Refused : goal.returns-in-Refused
 returns-in-Refused g c = takes_piece c.put-in-Refused.ensures (search rules) (omega arith)

@@ -2,15 +2,15 @@
 
 ghost use Rattle.std.specs.Prelude.{◌≡◌, Ok, Err, MatchResult};
 ghost use Rattle.plan.specs.Plans.{content_of};
+ghost use Rattle.planning.specs.Inputs.{longest_report, opening_text, ordered, report_text};
 ghost use Rattle.report.specs.Buffers.{Written};
-ghost use Rattle.report.specs.Inputs.{longest_report, opening_text, ordered, report_text};
 
-use crate::refusal::write_refusal;
-use crate::standing::{Standing, write_standing};
-use crate::summary::Summary;
 use fault::Fault;
 use order::read_order;
 use plan::{MOST_TASKS, Plan, admit};
+use report::{write_refusal, write_standing};
+use schedule::Summary;
+use standing::Standing;
 
 /// No report has more bytes.
 pub const LONGEST_REPORT: usize = 1428;
@@ -49,5 +49,5 @@ fn write_opening(plan: &Plan, out: &mut [u8]) -> Result<usize, Fault>
 {
     let summaries = [Summary::default(); MOST_TASKS];
     let count = plan.tasks().len();
-    write_standing(out, Standing::Open { instant: 0 }, &summaries[..count])
+    write_standing(out, Standing::Open, 0, &summaries[..count])
 }

@@ -1,0 +1,7 @@
+//! The whole way from an input to its report: the order line, admission, and the answer.
+
+#![tactic(auto)]
+
+mod whole;
+
+pub use whole::{LONGEST_REPORT, report_on, whole_report};
