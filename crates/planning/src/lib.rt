@@ -2,6 +2,8 @@
 
 #![tactic(auto)]
 
+mod answering;
+mod requests;
 mod whole;
 
 pub use whole::{LONGEST_REPORT, report_on, whole_report};
