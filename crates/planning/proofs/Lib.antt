@@ -1,2 +1,2 @@
-mod Openings
-mod Settings
+pub mod Reaching
+pub mod Settings

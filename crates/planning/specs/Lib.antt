@@ -1,3 +1,4 @@
 pub mod Settings
 pub mod Runs
+pub mod Following
 pub mod Inputs

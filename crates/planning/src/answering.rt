@@ -1,28 +1,28 @@
 //! The run of a plan, for any policy and any delay model.
 
-ghost use Rattle.planning.specs.Runs.{Answers};
+ghost use Rattle.planning.specs.Runs.{Answers, Decided};
 ghost use Rattle.schedule.specs.States.{setting_of};
 
+use crate::following::follow;
 use delay::DelayModel;
 use dispatch::Policy;
 use fault::Fault;
-use plan::{MOST_TASKS, Plan};
+use plan::Plan;
 use report::write_standing;
-use schedule::Summary;
-use standing::Standing;
+use run::Run;
 
-/// Writes the report of a plan's run under a policy and a delay model, and answers its length. A buffer that is too short for it is
-/// left as it was.
-// The run is opened and not advanced yet, so neither of the two is asked. They are `Copy`, so that they may be let go.
-pub(crate) fn answer<P: Policy + Copy, M: DelayModel + Copy>(
+/// Follows a plan's schedule under a policy and a delay model, and writes the report. A buffer that is too short for it is left as it
+/// was.
+pub(crate) fn answer<P: Policy + Drop, M: DelayModel + Drop>(
     plan: &Plan,
-    _policy: P,
-    _model: M,
+    policy: P,
+    model: M,
     out: &mut [u8],
 ) -> Result<usize, Fault>
-    ensures { Answers (setting_of plan.now (P.Policy.rule _policy) (M.DelayModel.profile _model)) out.old out.new result }
+    ensures report { Answers (setting_of plan.now (P.Policy.rule policy) (M.DelayModel.profile model)) out.old out.new result }
+    ensures decided { Decided (setting_of plan.now (P.Policy.rule policy) (M.DelayModel.profile model)) }
 {
-    let summaries = [Summary::default(); MOST_TASKS];
-    let count = plan.tasks().len();
-    write_standing(out, Standing::Open, 0, &summaries[..count])
+    let mut run = Run::open(plan, policy, model);
+    follow(&mut run)?;
+    write_standing(out, run.standing(), run.clock(), run.summaries())
 }

@@ -3,6 +3,7 @@
 #![tactic(auto)]
 
 mod answering;
+mod following;
 mod requests;
 mod whole;
 

@@ -2,7 +2,7 @@
 
 ghost use Rattle.std.specs.Prelude.{◌≡◌};
 ghost use Rattle.planning.specs.Runs.{longest_report};
-ghost use Rattle.planning.specs.Inputs.{report_text};
+ghost use Rattle.planning.specs.Inputs.{DecidedFor, ordered, report_text};
 ghost use Rattle.report.specs.Buffers.{Written};
 
 use crate::requests::Request;
@@ -14,7 +14,8 @@ pub const LONGEST_REPORT: usize = 1428;
 
 /// The report of an input, in a buffer that has room for each.
 pub fn whole_report<'a>(input: &[u8], out: &'a mut [u8; LONGEST_REPORT]) -> &'a [u8]
-    ensures { result.now ≡ report_text input.now }
+    ensures report { result.now ≡ report_text input.now }
+    ensures decided { DecidedFor (ordered input.now) }
 {
     // only a buffer that is too short is refused
     let length = report_on(input, out).unwrap();
@@ -22,8 +23,11 @@ pub fn whole_report<'a>(input: &[u8], out: &'a mut [u8; LONGEST_REPORT]) -> &'a 
 }
 
 /// Writes the report of an input, and answers its length. A buffer that is too short for it is left as it was.
+///
+/// What the first line of a report says of the schedule without end is in the contract, too.
 pub fn report_on(input: &[u8], out: &mut [u8]) -> Result<usize, Fault>
-    ensures { Written longest_report (report_text input.now) out.old out.new result }
+    ensures report { Written longest_report (report_text input.now) out.old out.new result }
+    ensures decided { DecidedFor (ordered input.now) }
 {
     match Request::read(input) {
         Ok(request) => request.report(out),

@@ -14,6 +14,7 @@ use dispatch::Policy;
 use schedule::Schedule;
 
 /// Who is asked and told at each tick, and the moment that the schedule has come to. It is the schedule's own moment at its clock.
+#[derive(Drop)]
 pub struct Follower<P: Policy, M: DelayModel> {
     policy: P,
     model: M,

@@ -20,6 +20,7 @@ use dispatch::Policy;
 use standing::Standing;
 
 /// A plan's schedule under a policy and a delay model, up to the instant that it has been followed to, and what is known of it there.
+#[derive(Drop)]
 pub struct Run<P: Policy, M: DelayModel> {
     follower: Follower<P, M>,
     watch: Watch,

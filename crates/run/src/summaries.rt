@@ -9,6 +9,7 @@ use plan::MOST_TASKS;
 use schedule::Summary;
 
 /// The summary of each task, by its number.
+#[derive(Drop)]
 pub struct Summaries {
     rows: [Summary; MOST_TASKS],
     ghost sized: { length rows ≡ 16 },

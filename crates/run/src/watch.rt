@@ -7,6 +7,7 @@ use plan::Hyperperiod;
 use schedule::State;
 
 /// The sample that is kept, and the one that is taken next.
+#[derive(Drop)]
 pub struct Watch {
     period: Hyperperiod,
     /// the instant of the next sample

@@ -1,13 +1,17 @@
-use Rattle.std.proofs.Common.{ap, sym, ◌∙◌, List, subst}
-use Prim.Native.Nat.{ℕ}
-use Rattle.planning.specs.Runs.{run_text}
-use Rattle.planning.specs.Inputs.{answer_text}
+use Rattle.std.proofs.Common.{ℕ, List, ap, sym, ◌∙◌, subst}
 use Rattle.planning.proofs.Settings.{setting_is}
-use Rattle.report.specs.Buffers.{Written}
 use Rattle.planning.proofs.whole.report_on.Goals as goal
+use Rattle.planning.specs.Inputs.{DecidedFor, answer_text}
+use Rattle.planning.specs.Runs.{Decided, run_text}
+use Rattle.report.specs.Buffers.{Written}
 
-pub returns-in-Ok : goal.returns-in-Ok
-returns-in-Ok c =
+pub returns-in-Ok-clause-report : goal.returns-in-Ok-clause-report
+returns-in-Ok-clause-report c =
     let request = c.in-Ok.request in
     let same = ap run_text (setting_is request.order request.plan) ∙ sym (ap answer_text c.in-Ok.ensures) in
-    subst (λ (z : List ℕ). Written 1428 z c.args.out.now c.report.new.out c.report.result) same c.report.ensures
+    subst (λ (z : List ℕ). Written 1428 z c.args.out.now c.report.new.out c.report.result) same c.report.ensures.report
+
+pub returns-in-Ok-clause-decided : goal.returns-in-Ok-clause-decided
+returns-in-Ok-clause-decided c =
+    let request = c.in-Ok.request in
+    subst DecidedFor (sym c.in-Ok.ensures) (subst Decided (setting_is request.order request.plan) c.report.ensures.decided)
