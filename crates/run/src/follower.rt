@@ -15,7 +15,7 @@ use schedule::Schedule;
 
 /// Who is asked and told at each tick, and the moment that the schedule has come to. It is the schedule's own moment at its clock.
 #[derive(Drop)]
-pub struct Follower<P: Policy, M: DelayModel> {
+pub(crate) struct Follower<P: Policy, M: DelayModel> {
     policy: P,
     model: M,
     schedule: Schedule,

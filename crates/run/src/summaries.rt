@@ -10,7 +10,7 @@ use schedule::Summary;
 
 /// The summary of each task, by its number.
 #[derive(Drop)]
-pub struct Summaries {
+pub(crate) struct Summaries {
     rows: [Summary; MOST_TASKS],
     ghost sized: { length rows ≡ 16 },
 }

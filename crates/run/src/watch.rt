@@ -8,7 +8,7 @@ use schedule::State;
 
 /// The sample that is kept, and the one that is taken next.
 #[derive(Drop)]
-pub struct Watch {
+pub(crate) struct Watch {
     period: Hyperperiod,
     /// the instant of the next sample
     next: u64,
