@@ -1,5 +1,5 @@
 -- What is in a list after one thing was done to each of its first elements.
-use Rattle.std.proofs.Common.{◌≡◌, ℕ, zero, suc, ◌+◌, ◌<◌, ◌≤◌, ◌≢◌, List, ◌∷◌, map, length, get_or, set, refl, ap, ◌∙◌, ⊎_elim, eq-or-lt_of_le, add-one, arith}
+use Rattle.std.proofs.Common.{◌≡◌, ℕ, zero, suc, ◌+◌, ◌<◌, ◌≤◌, ◌≢◌, List, ◌∷◌, map, length, get_or, set, refl, sym, ap, ◌∙◌, ⊎_elim, eq-or-lt_of_le, add-one, arith}
 use Rattle.std.proofs.lemmas.List.{get_or-set_other, get_or-set_same, length-set}
 use Rattle.std.specs.List.{range_with_len}
 use Rattle.schedule.specs.Each.{each}
@@ -20,6 +20,11 @@ each_ahead d zero f xs k e h = refl
 each_ahead d (suc n) f xs k e h =
     let other : k ≢ n = omega arith in
     get_or-set_other (each d n f xs) n k (f n (get_or xs n d)) e other ∙ each_ahead d n f xs k e (omega arith)
+
+-- one element more, of a list of which the first n are done
+pub each_next : {X : Type 0} (d : X) (n : ℕ) (f : ℕ → X → X) (xs ys : List X) → ys ≡ each d n f xs → set ys n (f n (get_or ys n d)) ≡ each d (n + 1) f xs
+each_next d n f xs ys e =
+    ap (λ zs. set zs n (f n (get_or zs n d))) e ∙ ap (λ x. set (each d n f xs) n (f n x)) (each_ahead d n f xs n d (omega arith)) ∙ sym (each_more d n f xs)
 
 pub each_at : {X : Type 0} (d : X) (n : ℕ) (f : ℕ → X → X) (xs : List X) (k : ℕ) (e : X) → k < n → k < length xs → get_or (each d n f xs) k e ≡ f k (get_or xs k d)
 unfolding each

@@ -6,3 +6,5 @@ pub mod Owing
 pub mod Choices
 pub mod Releases
 pub mod WholeTicks
+pub mod Ahead
+pub mod JobRows

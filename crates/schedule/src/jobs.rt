@@ -5,25 +5,22 @@ ghost use Rattle.std.specs.Prelude.{◌≡◌, length};
 mod opening;
 mod reading;
 mod serving;
+mod stepping;
 mod switching;
 mod writing;
 
-use crate::slots::Slot;
+use dispatch::Candidate;
 use plan::MOST_TASKS;
 pub(crate) use serving::Served;
-
-/// What is known of a task's live job, and the delay answered to it so far, which stays when the job has finished until the next
-/// release. The default is that no job is live.
-#[derive(Clone, Copy, Default)]
-pub(crate) struct LiveJob {
-    pub(crate) slot: Slot,
-    pub(crate) delay: u64,
-}
 
 /// The live job of each task, and the running task.
 #[derive(Clone, Copy)]
 pub(crate) struct JobTable {
-    jobs: [LiveJob; MOST_TASKS],
+    /// what a policy is shown of each task, kept so that a tick need not write it out
+    rows: [Candidate; MOST_TASKS],
+    /// the delay answered so far to the live job of each task, which stays when the job has finished until the next release
+    delays: [u64; MOST_TASKS],
     running: Option<usize>,
-    ghost sized: { length jobs ≡ 16 },
+    ghost sized: { length rows ≡ 16 },
+    ghost charged: { length delays ≡ 16 },
 }

@@ -1,7 +1,10 @@
 //! The live job of a task.
 
 ghost use Rattle.std.specs.Prelude.{◌≡◌};
+ghost use Rattle.schedule.specs.JobTables.{row_of, slot_in};
 ghost use Rattle.schedule.specs.Ticks.{worked};
+
+use dispatch::Candidate;
 
 /// What is known of a task's live job. Where no job is live, all is zero.
 #[derive(Clone, Copy, Default, PartialEq, Eq)]
@@ -17,6 +20,31 @@ pub struct Slot {
 }
 
 impl Slot {
+    /// What a row shows of the live job.
+    pub(crate) fn of(row: Candidate) -> Self
+        ensures { result ≡ slot_in row }
+    {
+        Slot {
+            live: row.live,
+            left: row.left,
+            owed: row.owed,
+            begun: row.begun,
+        }
+    }
+
+    /// The row of a live job so many ticks before its deadline.
+    pub(crate) fn shown(self, until: u32) -> Candidate
+        ensures { result ≡ row_of self until }
+    {
+        Candidate {
+            live: self.live,
+            left: self.left,
+            owed: self.owed,
+            begun: self.begun,
+            until,
+        }
+    }
+
     /// One tick: reload that is owed comes before work.
     pub(crate) fn work(&mut self)
         ensures { self.new ≡ worked self.old }

@@ -1,18 +1,42 @@
 //! What the table says of a task.
 
-ghost use Rattle.std.specs.Prelude.{◌≡◌};
-ghost use Rattle.schedule.specs.JobTables.{delay_at, slot_at};
+ghost use Rattle.std.specs.Prelude.{◌≡◌, ◌≤◌, take};
+ghost use Rattle.schedule.specs.JobTables.{delay_at, slot_at, until_at};
 ghost use Rattle.schedule.specs.Ticks.{runs};
 
-use super::{JobTable, LiveJob};
+use super::JobTable;
+use crate::slots::Slot;
+use dispatch::Candidate;
 
 impl JobTable {
-    /// The live job of a task.
-    pub(crate) fn job(&self, task: usize) -> LiveJob
-        ensures slot { result.slot ≡ slot_at self.now task }
-        ensures delay { result.delay ≡ delay_at self.now task }
+    /// The first so many tasks, as a policy sees them.
+    pub(crate) fn rows(&self, count: usize) -> &[Candidate]
+        requires { count ≤ 16 }
+        ensures { result.now ≡ take count self.now.rows }
     {
-        self.jobs.get(task).copied().unwrap_or_default()
+        &self.rows[..count]
+    }
+
+    /// The slot of a task.
+    pub(crate) fn slot(&self, task: usize) -> Slot
+        ensures { result ≡ slot_at self.now task }
+    {
+        let row = self.rows.get(task).copied().unwrap_or_default();
+        Slot::of(row)
+    }
+
+    /// How many ticks there are until the deadline of the live job of a task.
+    pub(super) fn until(&self, task: usize) -> u32
+        ensures { result ≡ until_at self.now task }
+    {
+        self.rows.get(task).map_or(0, |row| row.until)
+    }
+
+    /// The delay answered so far to the live job of a task.
+    pub(super) fn delay(&self, task: usize) -> u64
+        ensures { result ≡ delay_at self.now task }
+    {
+        self.delays.get(task).copied().unwrap_or(0)
     }
 
     /// The running task.

@@ -1,7 +1,7 @@
 //! Step 3 of a tick: the chosen task gets the core.
 
 ghost use Rattle.std.specs.Prelude.{◌≡◌, ◌+◌, ◌^◌, ◌<◌, [], slice_set};
-ghost use Rattle.schedule.specs.JobTables.{delay_at, delays_in, slot_at};
+ghost use Rattle.schedule.specs.JobTables.{delay_at, delays_in, slot_at, untils_in};
 ghost use Rattle.schedule.specs.Tables.{state_of, switch_delay, unruled};
 ghost use Rattle.schedule.specs.Ticks.{delay_to, loses, lost, switched};
 
@@ -14,7 +14,7 @@ impl JobTable {
     fn is_losing(&self, task: usize, to: usize) -> bool
         ensures { result ≡ loses (state_of self.now []) task to }
     {
-        let slot = self.job(task).slot;
+        let slot = self.slot(task);
         task != to && slot.live && slot.begun
     }
 
@@ -44,6 +44,7 @@ impl JobTable {
         requires charging { delay_at self.old task < 2 ^ 63 }
         ensures same { M.DelayModel.profile model.new ≡ M.DelayModel.profile model.old }
         ensures state { state_of self.new (M.DelayModel.marks model.new) ≡ switched (unruled tasks.now (M.DelayModel.profile model.old)) task (state_of self.old (M.DelayModel.marks model.old)) }
+        ensures untils { untils_in self.new ≡ untils_in self.old }
         ensures delays { delays_in self.new ≡ slice_set (delays_in self.old) task (delay_at self.old task + delay_to (unruled tasks.now (M.DelayModel.profile model.old)) task (state_of self.old (M.DelayModel.marks model.old))) }
         ensures switch { result ≡ switch_delay (unruled tasks.now (M.DelayModel.profile model.old)) task (state_of self.old (M.DelayModel.marks model.old)) }
     {
@@ -51,17 +52,17 @@ impl JobTable {
             return None;
         }
         self.tell_losses(model, tasks.len(), task);
-        let mut job = self.job(task);
-        let delay = if job.slot.begun {
+        let mut slot = self.slot(task);
+        let delay = if slot.begun {
             model.resume(task)
         } else {
             model.begin(task);
             0
         };
-        job.slot.owed += u64::from(delay);
-        job.delay += u64::from(delay);
-        job.slot.begun = true;
-        self.put(task, job);
+        slot.owed += u64::from(delay);
+        slot.begun = true;
+        self.put(task, slot);
+        self.charge(task, delay);
         Some(delay)
     }
 }

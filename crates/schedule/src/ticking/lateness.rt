@@ -14,7 +14,7 @@ impl Schedule {
     fn is_late(&self, task: usize) -> bool
         ensures { result ≡ late_job self.now.calendar.clock (task_in self.now.calendar task) (next_at self.now.calendar task) (slot_at self.now.jobs task) }
     {
-        self.jobs.job(task).slot.live && self.calendar.is_deadline(task)
+        self.jobs.slot(task).live && self.calendar.is_deadline(task)
     }
 
     /// The job that is late at the clock; of several, that of the lowest task number.

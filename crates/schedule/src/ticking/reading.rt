@@ -27,7 +27,7 @@ impl Schedule {
     pub fn slot(&self, task: usize) -> Slot
         ensures { result ≡ slot_of (moment_of self.now []).state task }
     {
-        self.jobs.job(task).slot
+        self.jobs.slot(task)
     }
 
     /// The running task, if there is one.

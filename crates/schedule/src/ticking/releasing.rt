@@ -14,8 +14,10 @@ impl Schedule {
         ensures clock { clock_of self.new ≡ clock_of self.old }
         ensures moment { TaskReleased (timed (tasks_of self.old)) (clock_of self.old) task (moment_of self.old []) (moment_of self.new []) }
     {
-        if let Some(work) = self.calendar.count_release(task) {
-            self.jobs.enter(task, work);
+        let Schedule { calendar, jobs } = self;
+        if let Some(work) = calendar.count_release(task) {
+            let until = calendar.until(task);
+            jobs.enter(task, work, until);
         }
     }
 

@@ -1,6 +1,8 @@
 //! Steps 3 to 5 of a tick: the chosen task is served, and the clock goes on.
 
-ghost use Rattle.std.specs.Prelude.{◌≡◌, ◌+◌, ◌<◌, length, Some, IfSome};
+ghost use Rattle.std.specs.Prelude.{◌≡◌, ◌+◌, ◌<◌, List, length, Some, None, IfSome};
+ghost use Rattle.delay.specs.declared.mark.Mark.{Mark};
+ghost use Rattle.schedule.specs.States.{Setting};
 ghost use Rattle.schedule.specs.Tables.{Passed, clock_of, moment_of, plan_of, tasks_of, unruled};
 
 use super::Schedule;
@@ -22,7 +24,22 @@ impl Schedule {
         let switch = calendar.switch_row(task, served.switch);
         let job = calendar.job_row(task, served.finished);
         calendar.step();
+        jobs.step(calendar.tasks().len());
         TickRows { switch, job }
+    }
+
+    /// A tick in which no task has the core.
+    fn idle(&mut self) -> TickRows
+        requires before { clock_of self.old < 1000000000000 }
+        ensures plan { plan_of self.new ≡ plan_of self.old }
+        ensures clock { clock_of self.new ≡ clock_of self.old + 1 }
+        ensures passed { (c : Setting) (ms : List Mark) → Passed c (clock_of self.old) None (moment_of self.old ms) (moment_of self.new ms) result }
+    {
+        let Schedule { calendar, jobs } = self;
+        jobs.idle();
+        calendar.step();
+        jobs.step(calendar.tasks().len());
+        TickRows::default()
     }
 
     /// The rest of a tick after the choice.
@@ -36,11 +53,7 @@ impl Schedule {
     {
         match choice {
             Some(task) => self.serve(model, task),
-            None => {
-                self.jobs.idle();
-                self.calendar.step();
-                TickRows::default()
-            }
+            None => self.idle(),
         }
     }
 }

@@ -1,20 +1,14 @@
-use Rattle.std.proofs.Common.{◌≡◌, ℕ, ◌≤◌, List, map, length, set, sym, arith}
-use Rattle.std.proofs.lemmas.List.{length-map, map-set, set_past}
+use Rattle.std.proofs.Common.{set, ap, ◌∙◌}
+use Rattle.std.proofs.lemmas.List.{set-get_or}
+use Rattle.dispatch.specs.declared.candidates.Candidate.{Candidate}
+use Rattle.schedule.proofs.JobRows.{row_placed}
 use Rattle.schedule.proofs.jobs.JobTable.put.Goals as goal
-use Rattle.schedule.specs.declared.jobs.LiveJob.{LiveJob}
+use Rattle.schedule.specs.JobTables.{slot_in, untils_in}
 
--- past the end of the table nothing is put, whatever is read of the jobs
-put_past : {X : Type 0} (f : LiveJob → X) (js : List LiveJob) (i : ℕ) (x : X) → length js ≤ i → map f js ≡ set (map f js) i x
-put_past f js i x h = sym (set_past (map f js) i x (omega (arith, length-map js f)))
+pub returns-clause-slots : goal.returns-clause-slots
+returns-clause-slots c = row_placed slot_in _ _ _ _ (rw c.shown.ensures at c.place.ensures.rows)
 
-pub returns-then-task-lt-MOST_TASKS-clause-slots : goal.returns-then-task-lt-MOST_TASKS-clause-slots
-returns-then-task-lt-MOST_TASKS-clause-slots c = map-set (λ (j : LiveJob). j.slot) _ _ _
-
-pub returns-then-task-lt-MOST_TASKS-clause-delays : goal.returns-then-task-lt-MOST_TASKS-clause-delays
-returns-then-task-lt-MOST_TASKS-clause-delays c = map-set (λ (j : LiveJob). j.delay) _ _ _
-
-pub returns-else-task-lt-MOST_TASKS-clause-slots : goal.returns-else-task-lt-MOST_TASKS-clause-slots
-returns-else-task-lt-MOST_TASKS-clause-slots c = put_past (λ (j : LiveJob). j.slot) c.args.self.now.jobs _ _ (omega (arith, c.args.self.now.sized))
-
-pub returns-else-task-lt-MOST_TASKS-clause-delays : goal.returns-else-task-lt-MOST_TASKS-clause-delays
-returns-else-task-lt-MOST_TASKS-clause-delays c = put_past (λ (j : LiveJob). j.delay) c.args.self.now.jobs _ _ (omega (arith, c.args.self.now.sized))
+pub returns-clause-untils : goal.returns-clause-untils
+returns-clause-untils c =
+    let untils = untils_in c.args.self.now in
+    row_placed (λ (r : Candidate). r.until) _ _ _ _ (rw c.shown.ensures at c.place.ensures.rows) ∙ ap (set untils c.args.task) c.until-until.ensures ∙ set-get_or untils c.args.task 0

@@ -3,9 +3,8 @@ use Rattle.std.proofs.lemmas.List.{ext_get_or, length-map}
 use Rattle.delay.specs.Marks.{zero_mark}
 use Rattle.dispatch.proofs.Made.{made_at}
 use Rattle.schedule.proofs.ticking.Schedule.state.Goals as goal
-use Rattle.schedule.specs.JobTables.{slot_at, slots_in}
+use Rattle.schedule.specs.JobTables.{slot_at, slot_in, slots_in}
 use Rattle.schedule.specs.Jobs.{vacant}
-use Rattle.schedule.specs.declared.jobs.LiveJob.{LiveJob}
 
 pub returns : goal.returns
 returns g c =
@@ -15,7 +14,7 @@ returns g c =
     let shown = c.from_fn.ensures.items in
     let marked = c.from_fn-2.ensures.items in
     let slots : c.from_fn.result ≡ slots_in self.jobs =
-    ext_get_or vacant _ _ (shown.long ∙ sym (length-map self.jobs.jobs (λ (j : LiveJob). j.slot) ∙ self.jobs.sized))
+    ext_get_or vacant _ _ (shown.long ∙ sym (length-map self.jobs.rows slot_in ∙ self.jobs.sized))
     (λ k h. made_at (λ p. p.0.now ≡ self) (slot_at self.jobs) shown refl (λ p q i y s called. search rules) k vacant (omega (arith, h, shown.long)))
     in
     let kept : c.from_fn-2.result ≡ marks =
