@@ -1,6 +1,6 @@
 -- What is in a list after one thing was done to each of its first elements.
 use Rattle.std.proofs.Common.{◌≡◌, ℕ, zero, suc, ◌+◌, ◌<◌, ◌≤◌, ◌≢◌, List, ◌∷◌, map, length, get_or, set, refl, sym, ap, ◌∙◌, ⊎_elim, eq-or-lt_of_le, add-one, arith}
-use Rattle.std.proofs.lemmas.List.{get_or-set_other, get_or-set_same, length-set}
+use Rattle.std.proofs.lemmas.List.{get_or-set_other, get_or-set_same, length-set, set-get_or}
 use Rattle.std.specs.List.{range_with_len}
 use Rattle.schedule.specs.Each.{each}
 
@@ -41,6 +41,13 @@ each_at d (suc n) f xs k e h l =
     here same =
         let room : n < length (each d n f xs) = omega (arith, length_each d n f xs) in
         rw same (get_or-set_same (each d n f xs) n (f n (get_or xs n d)) e room)
+
+-- nothing done to any of them
+pub each_still : {X : Type 0} (d : X) (n : ℕ) (f : ℕ → X → X) (xs : List X) → ((i : ℕ) → i < n → f i (get_or xs i d) ≡ get_or xs i d) → each d n f xs ≡ xs
+unfolding each
+each_still d zero f xs h = refl
+each_still d (suc n) f xs h =
+    ap (λ ys. set ys n (f n (get_or xs n d))) (each_still d n f xs (λ i l. h i (omega arith))) ∙ ap (set xs n) (h n (omega arith)) ∙ set-get_or xs n d
 
 pub each_same : {X : Type 0} (d : X) (n : ℕ) (f g : ℕ → X → X) (xs : List X) → ((i : ℕ) → i < n → (x : X) → f i x ≡ g i x) → each d n f xs ≡ each d n g xs
 unfolding each

@@ -1,6 +1,6 @@
 -- Jobs released one task after another.
-use Rattle.std.proofs.Common.{◌≡◌, ℕ, ◌+◌, cond, List, length, get_or, refl, ap, ◌∙◌, arith}
-use Rattle.schedule.proofs.Eaches.{each_ahead, each_more}
+use Rattle.std.proofs.Common.{◌≡◌, ℕ, ◌+◌, ◌<◌, false, cond, List, length, get_or, refl, sym, ap, ◌∙◌, arith}
+use Rattle.schedule.proofs.Eaches.{each_ahead, each_more, each_still}
 use Rattle.schedule.specs.Each.{each}
 use Rattle.schedule.specs.Jobs.{counted, due, entered, vacant}
 use Rattle.schedule.specs.States.{Moment, Setting, next_of, slot_of, task_of}
@@ -35,3 +35,15 @@ released_all c t x y r = λ i. record {
   next = r.next i;
   delays = r.delays i;
 }
+
+-- where no job is due
+pub released_nothing : (c : Setting) (t : ℕ) (x : Moment) → ((i : ℕ) → i < length c.tasks → due t (task_of c i) (next_of x i) ≡ false) → x ≡ released c t x
+released_nothing c t x none =
+    let slots = each_still vacant (length c.tasks) (λ i s. entered t (task_of c i) (next_of x i) s) x.state.slots (λ i l. rw (none i l) refl) in
+    let next = each_still 0 (length c.tasks) (λ i n. counted t (task_of c i) n) x.next (λ i l. rw (none i l) refl) in
+    let delays = each_still 0 (length c.tasks) (λ i d. cond (due t (task_of c i) (next_of x i)) 0 d) x.delays (λ i l. rw (none i l) refl) in
+    λ k. record {
+      state = record { slots = sym slots k; marks = x.state.marks; running = x.state.running };
+      next = sym next k;
+      delays = sym delays k;
+    }

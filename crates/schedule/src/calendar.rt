@@ -1,6 +1,6 @@
 //! When the jobs of the tasks are released, and when they have to be finished.
 
-ghost use Rattle.std.specs.Prelude.{◌≡◌, ℕ, ◌+◌, ◌≤◌, length, slice_index_or};
+ghost use Rattle.std.specs.Prelude.{◌≡◌, ℕ, ◌+◌, ◌<◌, ◌≤◌, length, slice_index_or};
 ghost use Rattle.plan.specs.Plans.{tasks_in};
 ghost use Rattle.plan.specs.Tasks.{zero_task};
 ghost use Rattle.schedule.specs.Calendars.{next_job, no_job};
@@ -8,6 +8,7 @@ ghost use Rattle.schedule.specs.Calendars.{next_job, no_job};
 mod next_job;
 mod opening;
 mod reading;
+mod soonest;
 mod stepping;
 mod writing;
 
@@ -20,8 +21,11 @@ pub(crate) struct Calendar {
     plan: Plan,
     clock: u64,
     jobs: [NextJob; MOST_TASKS],
+    /// no task has its next release before this instant, so that a tick need not ask each of them
+    soonest: u64,
     ghost ending: { clock ≤ 1000000000000 },
     ghost sized: { length jobs ≡ 16 },
     ghost kept: { (i : ℕ) → slice_index_or jobs i no_job ≡ next_job (slice_index_or (tasks_in plan) i zero_task) (slice_index_or jobs i no_job).number },
+    ghost later: { (i : ℕ) → i < length (tasks_in plan) → soonest ≤ (slice_index_or jobs i no_job).release },
     ghost near: { (i : ℕ) → (slice_index_or jobs i no_job).live_deadline ≤ clock + 2097152 },
 }

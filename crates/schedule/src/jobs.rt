@@ -22,5 +22,5 @@ pub(crate) struct JobTable {
     delays: [u64; MOST_TASKS],
     running: Option<usize>,
     ghost sized: { length rows ≡ 16 },
-    ghost charged: { length delays ≡ 16 },
+    ghost paired: { length delays ≡ 16 },
 }

@@ -21,6 +21,7 @@ impl Calendar {
             plan: *plan,
             clock: 0,
             jobs: first_jobs(plan),
+            soonest: 0,
         }
     }
 }

@@ -21,8 +21,8 @@ impl Schedule {
         }
     }
 
-    /// Releases each job that is due.
-    pub(super) fn release(&mut self)
+    /// Asks each task and releases its job, if that is due.
+    fn release_each(&mut self)
         ensures plan { plan_of self.new ≡ plan_of self.old }
         ensures clock { clock_of self.new ≡ clock_of self.old }
         ensures moment { moment_of self.new [] ≡ released (timed (tasks_of self.old)) (clock_of self.old) (moment_of self.old []) }
@@ -31,6 +31,17 @@ impl Schedule {
         // nothing is indexed here: the number is what the calendar and the table are told
         for task in 0..count {
             self.release_task(task);
+        }
+    }
+    /// Releases each job that is due.
+    pub(super) fn release(&mut self)
+        ensures plan { plan_of self.new ≡ plan_of self.old }
+        ensures clock { clock_of self.new ≡ clock_of self.old }
+        ensures moment { moment_of self.new [] ≡ released (timed (tasks_of self.old)) (clock_of self.old) (moment_of self.old []) }
+    {
+        if !self.calendar.is_quiet() {
+            self.release_each();
+            self.calendar.look_ahead();
         }
     }
 }

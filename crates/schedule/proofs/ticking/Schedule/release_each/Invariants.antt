@@ -1,6 +1,6 @@
 use Rattle.std.proofs.Common.{◌≡◌, []}
 use Rattle.schedule.proofs.Releases.{ReleasedTo}
-use Rattle.schedule.proofs.ticking.Schedule.release.Given as goal
+use Rattle.schedule.proofs.ticking.Schedule.release_each.Given as goal
 use Rattle.schedule.specs.Tables.{clock_of, moment_of, plan_of, tasks_of, timed}
 
 abbrev pub invariant-loop-task : goal.invariant-loop-task
