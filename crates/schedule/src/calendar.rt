@@ -21,11 +21,12 @@ pub(crate) struct Calendar {
     plan: Plan,
     clock: u64,
     jobs: [NextJob; MOST_TASKS],
-    /// no task has its next release before this instant, so that a tick need not ask each of them
+    /// from the clock to before this instant no job is released and no deadline comes, so that a tick need not ask each task
     soonest: u64,
     ghost ending: { clock ≤ 1000000000000 },
     ghost sized: { length jobs ≡ 16 },
     ghost kept: { (i : ℕ) → slice_index_or jobs i no_job ≡ next_job (slice_index_or (tasks_in plan) i zero_task) (slice_index_or jobs i no_job).number },
+    ghost awaited: { (i : ℕ) → i < length (tasks_in plan) → clock ≤ (slice_index_or jobs i no_job).live_deadline → soonest ≤ (slice_index_or jobs i no_job).live_deadline },
     ghost later: { (i : ℕ) → i < length (tasks_in plan) → soonest ≤ (slice_index_or jobs i no_job).release },
     ghost near: { (i : ℕ) → (slice_index_or jobs i no_job).live_deadline ≤ clock + 2097152 },
 }

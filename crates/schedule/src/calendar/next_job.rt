@@ -1,6 +1,6 @@
 //! The next job of a task.
 
-ghost use Rattle.std.specs.Prelude.{◌≡◌};
+ghost use Rattle.std.specs.Prelude.{◌≡◌, ◌≤◌};
 ghost use Rattle.schedule.specs.Calendars.{next_job};
 
 use plan::Task;
@@ -25,6 +25,18 @@ impl NextJob {
             number: 0,
             release,
             live_deadline: release + u64::from(task.deadline),
+        }
+    }
+
+    /// From this instant on, the soonest at which the next job is released or the deadline of the live one comes.
+    pub(super) fn soonest(&self, clock: u64) -> u64
+        ensures release { result ≤ self.now.release }
+        ensures deadline { clock ≤ self.now.live_deadline → result ≤ self.now.live_deadline }
+    {
+        if clock <= self.live_deadline {
+            self.release.min(self.live_deadline)
+        } else {
+            self.release
         }
     }
 }

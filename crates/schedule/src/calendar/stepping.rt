@@ -30,6 +30,8 @@ impl Calendar {
             return None;
         }
         let released = self.plan.task(task);
+        // to be found anew, as both instants of the task change
+        self.soonest = 0;
         let job = &mut self.jobs[task];
         job.number += 1;
         job.release += u64::from(released.period);

@@ -1,4 +1,4 @@
-use Rattle.std.proofs.Common.{◌≡◌, ◌+◌, ◌<◌, ◌≤◌, true, Bool, cond, length, get_or, set, ap, sym, ◌∙◌, arith}
+use Rattle.std.proofs.Common.{◌≡◌, ◌+◌, ◌≤◌, true, Bool, cond, get_or, set, ap, sym, ◌∙◌, arith}
 use Rattle.std.proofs.Math.ListN.{get_or-map}
 use Rattle.std.proofs.lemmas.Bool.{eqb-true}
 use Rattle.std.proofs.lemmas.List.{length-set, map-set}
@@ -29,7 +29,8 @@ invariant_of-self c =
       ending = old.ending;
       sized = length-set old.jobs j _ ∙ old.sized;
       kept = placed_set (λ i v. v ≡ next_job (get_or ks i zero_task) v.number) no_job old.jobs j _ (one_counted (get_or ks j zero_task) _ _ _ _ _ period deadline kept now) old.kept;
-      later = placed_set (λ i v. i < length ks → old.soonest ≤ v.release) no_job old.jobs j _ (λ l. omega (arith, old.later j l)) old.later;
+      awaited = λ i l m. omega arith;
+      later = λ i l. omega arith;
       near = placed_set (λ _ v. v.live_deadline ≤ old.clock + 2097152) no_job old.jobs j _ (omega arith) old.near;
     }
 

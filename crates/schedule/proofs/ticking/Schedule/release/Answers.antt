@@ -7,4 +7,4 @@ pub returns-else-not-is_quiet-clause-moment : goal.returns-else-not-is_quiet-cla
 returns-else-not-is_quiet-clause-moment c =
     let old = c.args.self.now in
     let quiet : c.is_quiet.result ≡ true = cc in
-    released_nothing (timed (tasks_of old)) (clock_of old) (moment_of old []) (c.is_quiet.ensures quiet)
+    released_nothing (timed (tasks_of old)) (clock_of old) (moment_of old []) (c.is_quiet.ensures.releases quiet)

@@ -1,6 +1,0 @@
-use Rattle.std.proofs.Common.{ℕ, ◌<◌, ◌≤◌, get_or}
-use Rattle.schedule.proofs.calendar.Calendar.look_ahead.Given as goal
-use Rattle.schedule.specs.Calendars.{no_job}
-
-abbrev pub invariant-loop-task : goal.invariant-loop-task
-invariant-loop-task l = (i : ℕ) → i < l.task → l.soonest ≤ (get_or l.self.jobs i no_job).release
