@@ -21,6 +21,9 @@ impl Schedule {
     pub fn late(&self) -> Option<LateJob>
         ensures { result ≡ late_first (timed (tasks_of self.now)) (clock_of self.now) (moment_of self.now []) }
     {
+        if self.calendar.is_quiet() {
+            return None;
+        }
         let count = self.calendar.tasks().len();
         for task in 0..count {
             if self.is_late(task) {

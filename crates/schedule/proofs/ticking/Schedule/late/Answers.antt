@@ -32,3 +32,11 @@ returns c =
     let it = c.args.self.now in
     let all : length (tasks_of it) ≤ c.loop-task.task = rw c.tasks-count.ensures.value at c.loop-task-test.false in
     sym (ap (late_named (moment_of it [])) (first_none (length (tasks_of it)) _ (λ i h. c.loop-task.invariant i (omega (arith, h, all)))))
+
+pub returns-then-is_quiet : goal.returns-then-is_quiet
+returns-then-is_quiet c =
+    let it = c.args.self.now in
+    let none = c.is_quiet.ensures.deadlines c.if-is_quiet.true in
+    sym
+    (ap (late_named (moment_of it []))
+    (first_none (length (tasks_of it)) _ (λ i h. and_right (ltb i _) _ (and_right (slot_at it.jobs i).live _ (none i h)))))
