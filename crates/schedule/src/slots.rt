@@ -44,15 +44,15 @@ impl Slot {
             until,
         }
     }
+}
 
-    /// One tick: reload that is owed comes before work.
-    pub(crate) fn work(&mut self)
-        ensures { self.new ≡ worked self.old }
-    {
-        if self.owed > 0 {
-            self.owed -= 1;
-        } else {
-            self.left = self.left.saturating_sub(1);
-        }
+/// One tick for the live job that a row shows: reload that is owed comes before work.
+pub(crate) fn work(row: &mut Candidate)
+    ensures { row.new ≡ row_of (worked (slot_in row.old)) row.old.until }
+{
+    if row.owed > 0 {
+        row.owed -= 1;
+    } else {
+        row.left = row.left.saturating_sub(1);
     }
 }

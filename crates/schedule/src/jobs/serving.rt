@@ -7,6 +7,7 @@ ghost use Rattle.schedule.specs.Tables.{state_of, switch_delay, unruled};
 ghost use Rattle.schedule.specs.Ticks.{delay_to, served, settled, spent};
 
 use super::JobTable;
+use crate::slots::work;
 use delay::DelayModel;
 use plan::Task;
 
@@ -22,15 +23,16 @@ pub(crate) struct Served {
 impl JobTable {
     /// The task that has the core spends one tick of reload or of work.
     fn spend<M: DelayModel>(&mut self, model: &mut M, task: usize)
+        requires { task < 16 }
         ensures same { M.DelayModel.profile model.new ≡ M.DelayModel.profile model.old }
         ensures state { state_of self.new (M.DelayModel.marks model.new) ≡ spent (unruled [] (M.DelayModel.profile model.old)) task (state_of self.old (M.DelayModel.marks model.old)) }
         ensures untils { untils_in self.new ≡ untils_in self.old }
         ensures delays { delays_in self.new ≡ delays_in self.old }
     {
         model.spend(task);
-        let mut slot = self.slot(task);
-        slot.work();
-        self.put(task, slot);
+        // the row of the task that has the core, lent as one element of the table
+        let row = &mut self.rows[task];
+        work(row);
     }
 
     /// Ends the tick: where no work is left the job finishes, and the answer is its delay; otherwise its task is the running one.
