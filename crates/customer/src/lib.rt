@@ -7,6 +7,7 @@ mod flat_cost;
 mod opened;
 
 pub use favourite::Favourite;
+pub use flat_cost::FlatCost;
 
 #[cfg(test)]
 mod tests;

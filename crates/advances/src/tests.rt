@@ -1,0 +1,71 @@
+//! Runs of small plans, against what was worked out by hand.
+
+mod deciding;
+mod refusals;
+mod rows;
+mod worked;
+
+use fault::{Cause, Fault, Layer};
+use row_log::Log;
+use run::{Advance, Stop};
+use schedule::{JobRow, Summary, SwitchRow};
+
+/// Plan S.
+const S: [u8; 60] = [
+    0x11, 0x04, 0x00, 0x00, 0x10, 0x00, 0x06, 0x00, 0x00, 0x60, 0x00, 0x02, 0x09, 0x00, 0x00, 0x00,
+    0x00, 0x00, 0x00, 0x00, 0x00, 0x00, 0x06, 0x00, 0x00, 0x00, 0x00, 0x00, 0x00, 0x00, 0x00, 0x00,
+    0x00, 0x00, 0x00, 0x0c, 0x00, 0x00, 0xc0, 0x00, 0x05, 0x05, 0x00, 0x06, 0x00, 0x00, 0x00, 0x00,
+    0x00, 0x00, 0x00, 0x06, 0x00, 0x00, 0x00, 0x00, 0x00, 0x00, 0x00, 0x00,
+];
+
+/// One task that always has the core: plan ONE.
+const ONE: [u8; 31] = [
+    0x10, 0x00, 0x00, 0x00, 0x00, 0x00, 0x01, 0x00, 0x00, 0x10, 0x00, 0x01, 0x00, 0x00, 0x00, 0x00,
+    0x00, 0x00, 0x00, 0x00, 0x00, 0x00, 0x00, 0x00, 0x00, 0x00, 0x00, 0x00, 0x00, 0x00, 0x00,
+];
+
+/// An advance that has done so many ticks.
+fn did(ticks: u64, stop: Stop) -> Result<Advance, Fault> {
+    Ok(Advance { ticks, stop })
+}
+
+/// A refusal of the run, which names no place.
+fn refusal(cause: Cause) -> Fault {
+    Fault::new(Layer::Run, cause)
+}
+
+/// Instant, task, job, delay.
+fn switch_row((instant, task, job, delay): (u64, usize, u64, u16)) -> SwitchRow {
+    SwitchRow {
+        instant,
+        task,
+        job,
+        delay,
+    }
+}
+
+/// Task, job, release, finish, delay.
+fn job_row((task, job, release, finish, delay): (usize, u64, u64, u64, u64)) -> JobRow {
+    JobRow {
+        task,
+        job,
+        release,
+        finish,
+        delay,
+    }
+}
+
+/// Jobs finished, worst response, total delay.
+fn summary((finished, worst, delay): (u64, u64, u64)) -> Summary {
+    Summary {
+        finished,
+        worst,
+        delay,
+    }
+}
+
+/// Whether the log has just these rows.
+fn has_rows<T: Copy + PartialEq>(log: &Log<T>, rows: &[T]) -> bool {
+    let same = |(number, row): (usize, &T)| log.row(number).is_ok_and(|x| x == *row);
+    log.len() == rows.len() && rows.iter().enumerate().all(same)
+}

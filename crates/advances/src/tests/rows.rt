@@ -1,0 +1,94 @@
+//! What plan S under fixed priority with loaded blocks writes down, and what is told of its tasks.
+
+use super::{S, did, has_rows, job_row, refusal, summary, switch_row};
+use delay::LoadedBlocks;
+use dispatch::FixedPriority;
+use fault::Cause;
+use plan::admit;
+use row_log::Log;
+use run::{Run, Stop};
+use schedule::{JobRow, SwitchRow};
+use std::test::Fail;
+
+/// Its switches up to instant 13.
+const SWITCHES: [(u64, usize, u64, u16); 6] = [
+    (0, 1, 0, 0),
+    (1, 0, 0, 0),
+    (3, 1, 0, 1),
+    (7, 0, 1, 0),
+    (9, 1, 0, 2),
+    (12, 1, 1, 0),
+];
+
+/// Its jobs up to instant 13.
+const JOBS: [(usize, u64, u64, u64, u64); 3] = [(0, 0, 1, 3, 0), (0, 1, 7, 9, 0), (1, 0, 0, 12, 3)];
+
+#[test]
+fn a_run_writes_down_its_switches_and_jobs(rt: HostRuntime) -> Result<(), Fail> {
+    let plan = admit(&S)?;
+    let mut run = Run::open(&plan, FixedPriority::new(&plan), LoadedBlocks::new(&plan));
+    let mut job_rows = [JobRow::default(); 8];
+    let mut switch_rows = [SwitchRow::default(); 8];
+    let mut jobs = Log::over(&mut job_rows);
+    let mut switches = Log::over(&mut switch_rows);
+    assert_eq!(rt;
+        run.advance(1_000_000_000, &mut jobs, &mut switches),
+        did(13, Stop::Closed)
+    );
+    assert!(rt; has_rows(&switches, &SWITCHES.map(switch_row)));
+    assert!(rt; has_rows(&jobs, &JOBS.map(job_row)));
+    Ok(())
+}
+
+#[test]
+fn clearing_one_log_leaves_the_other(rt: HostRuntime) -> Result<(), Fail> {
+    let plan = admit(&S)?;
+    let mut run = Run::open(&plan, FixedPriority::new(&plan), LoadedBlocks::new(&plan));
+    let mut job_rows = [JobRow::default(); 8];
+    let mut switch_rows = [SwitchRow::default(); 4];
+    let mut jobs = Log::over(&mut job_rows);
+    let mut switches = Log::over(&mut switch_rows);
+    assert_eq!(rt;
+        run.advance(13, &mut jobs, &mut switches),
+        did(8, Stop::SwitchLogFull)
+    );
+    switches.clear();
+    assert!(rt; has_rows(&switches, &[]));
+    assert!(rt; has_rows(&jobs, &[(0, 0, 1, 3, 0)].map(job_row)));
+    assert_eq!(rt;
+        run.advance(5, &mut jobs, &mut switches),
+        did(5, Stop::Closed)
+    );
+    assert!(rt;
+        has_rows(&switches, &[(9, 1, 0, 2), (12, 1, 1, 0)].map(switch_row)),
+        "from row 0 on again"
+    );
+    assert!(rt; has_rows(&jobs, &JOBS.map(job_row)));
+    Ok(())
+}
+
+#[test]
+fn summaries_tell_of_finished_jobs_and_of_all_delay(rt: HostRuntime) -> Result<(), Fail> {
+    let plan = admit(&S)?;
+    let mut run = Run::open(&plan, FixedPriority::new(&plan), LoadedBlocks::new(&plan));
+    let mut job_rows = [JobRow::default(); 8];
+    let mut switch_rows = [SwitchRow::default(); 8];
+    let mut jobs = Log::over(&mut job_rows);
+    let mut switches = Log::over(&mut switch_rows);
+    for (ticks, first, second) in [
+        (0, (0, 0, 0), (0, 0, 0)),
+        (10, (2, 2, 0), (0, 0, 3)),
+        (3, (2, 2, 0), (1, 12, 3)),
+    ] {
+        assert!(rt;
+            run.advance(ticks, &mut jobs, &mut switches)
+                .is_ok_and(|x| x.ticks == ticks)
+        );
+        assert_eq!(rt; run.summaries(), [first, second].map(summary).as_slice());
+        assert_eq!(rt; run.summary(0), Ok(summary(first)));
+        assert_eq!(rt; run.summary(1), Ok(summary(second)));
+    }
+    assert_eq!(rt; run.summary(2), Err(refusal(Cause::NoSuchEntry)));
+    assert_eq!(rt; run.summary(usize::MAX), Err(refusal(Cause::NoSuchEntry)));
+    Ok(())
+}

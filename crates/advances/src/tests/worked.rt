@@ -1,0 +1,130 @@
+//! The worked advances of plan S under fixed priority with loaded blocks, in their order.
+
+use super::{S, did, has_rows, job_row, refusal};
+use delay::LoadedBlocks;
+use dispatch::FixedPriority;
+use fault::Cause;
+use plan::admit;
+use row_log::Log;
+use run::{Run, Stop};
+use schedule::{JobRow, SwitchRow};
+use standing::Standing;
+use std::process::Abort;
+use std::test::Fail;
+
+/// A run of the kind that the worked advances have.
+type Worked = Run<FixedPriority, LoadedBlocks>;
+
+/// With no room in one of the logs, no tick is done; an advance by 0 ticks asks for no room.
+fn without_room(rt: &impl Abort, run: &mut Worked) {
+    let mut jobs = Log::over(&mut []);
+    let mut switches = Log::over(&mut []);
+    assert_eq!(rt;
+        run.advance(0, &mut jobs, &mut switches),
+        did(0, Stop::CountReached)
+    );
+    assert_eq!(rt;
+        run.advance(1, &mut jobs, &mut switches),
+        did(0, Stop::JobLogFull)
+    );
+    let mut job_rows = [JobRow::default(); 1];
+    let mut jobs = Log::over(&mut job_rows);
+    assert_eq!(rt;
+        run.advance(1, &mut jobs, &mut switches),
+        did(0, Stop::SwitchLogFull)
+    );
+    assert!(rt; has_rows(&jobs, &[]));
+    assert_eq!(rt; run.clock(), 0);
+}
+
+/// From instant 0 to 9, with a switch log that has room for all.
+fn to_instant_9(rt: &impl Abort, run: &mut Worked, jobs: &mut Log<'_, JobRow>) {
+    let mut switch_rows = [SwitchRow::default(); 9];
+    let mut switches = Log::over(&mut switch_rows);
+    assert_eq!(rt;
+        run.advance(100, jobs, &mut switches),
+        did(3, Stop::JobLogFull)
+    );
+    assert_eq!(rt; run.clock(), 3);
+    assert!(rt; has_rows(jobs, &[job_row((0, 0, 1, 3, 0))]));
+    assert!(rt; jobs.row(1) == Err(refusal(Cause::NoSuchEntry)));
+    assert_eq!(rt; run.clock(), 3);
+    jobs.clear();
+    assert_eq!(rt;
+        run.advance(6, jobs, &mut switches),
+        did(6, Stop::CountReached)
+    );
+    assert_eq!(rt; run.clock(), 9);
+    assert!(rt; has_rows(jobs, &[job_row((0, 1, 7, 9, 0))]));
+    assert_eq!(rt;
+        run.advance(1, jobs, &mut switches),
+        did(0, Stop::JobLogFull)
+    );
+    assert_eq!(rt; run.clock(), 9);
+    assert!(rt; has_rows(jobs, &[job_row((0, 1, 7, 9, 0))]));
+}
+
+/// From instant 9 to 13, with a new switch log for each advance.
+fn to_instant_13(rt: &impl Abort, run: &mut Worked, jobs: &mut Log<'_, JobRow>) {
+    let mut switch_rows = [SwitchRow::default(); 9];
+    jobs.clear();
+    let mut switches = Log::over(&mut switch_rows[0..1]);
+    assert_eq!(rt;
+        run.advance(100, jobs, &mut switches),
+        did(1, Stop::SwitchLogFull)
+    );
+    assert_eq!(rt; run.clock(), 10);
+    assert!(rt; has_rows(jobs, &[]));
+    let mut switches = Log::over(&mut switch_rows);
+    assert_eq!(rt;
+        run.advance(100, jobs, &mut switches),
+        did(2, Stop::JobLogFull)
+    );
+    assert_eq!(rt; run.clock(), 12);
+    assert!(rt; has_rows(jobs, &[job_row((1, 0, 0, 12, 3))]));
+    jobs.clear();
+    let mut switches = Log::over(&mut switch_rows[0..1]);
+    assert_eq!(rt; run.advance(100, jobs, &mut switches), did(1, Stop::Closed));
+    assert_eq!(rt; run.clock(), 13);
+    assert!(rt; has_rows(jobs, &[]));
+}
+
+/// How plan S under fixed priority with loaded blocks is decided.
+const HOLDS_13_1_0: Standing = Standing::Holds {
+    instant: 13,
+    sample: 1,
+    earlier: 0,
+};
+
+/// At instant 13 the run is closed, and stays so.
+fn closed(rt: &impl Abort, run: &mut Worked, jobs: &mut Log<'_, JobRow>) {
+    let mut switch_rows = [SwitchRow::default(); 9];
+    let mut switches = Log::over(&mut switch_rows);
+    assert_eq!(rt; run.standing(), HOLDS_13_1_0);
+    assert_eq!(rt;
+        run.advance(0, jobs, &mut switches),
+        Err(refusal(Cause::RunClosed))
+    );
+    assert_eq!(rt;
+        run.advance(1_000_000_001, jobs, &mut switches),
+        Err(refusal(Cause::AdvanceTooLong))
+    );
+    assert_eq!(rt; run.standing(), HOLDS_13_1_0);
+    assert_eq!(rt; run.clock(), 13);
+    assert!(rt; has_rows(jobs, &[]) && has_rows(&switches, &[]));
+}
+
+#[test]
+fn worked_advances(rt: HostRuntime) -> Result<(), Fail> {
+    let plan = admit(&S)?;
+    let mut run = Run::open(&plan, FixedPriority::new(&plan), LoadedBlocks::new(&plan));
+    assert_eq!(rt; run.standing(), Standing::Open);
+    assert_eq!(rt; run.clock(), 0);
+    without_room(&rt, &mut run);
+    let mut job_rows = [JobRow::default(); 1];
+    let mut jobs = Log::over(&mut job_rows);
+    to_instant_9(&rt, &mut run, &mut jobs);
+    to_instant_13(&rt, &mut run, &mut jobs);
+    closed(&rt, &mut run, &mut jobs);
+    Ok(())
+}
