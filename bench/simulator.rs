@@ -4,6 +4,8 @@
 //! the report. It proves nothing. It is here to be compared with: the planner must print the same, in about the same time.
 //!
 //!     rustc -O --edition 2024 bench/simulator.rs && ./simulator < examples/s.F-L.in
+//!
+//! With `--lines`, each line that it reads is an input in hexadecimal digits, and an empty line follows each report.
 
 mod input;
 
@@ -283,9 +285,25 @@ fn answer(input: &[u8]) -> Result<String, Refusal> {
     Ok(simulator.report(verdict))
 }
 
+fn report_on(input: &[u8]) -> String {
+    answer(input).unwrap_or_else(|refusal| refusal.to_string())
+}
+
+/// The bytes that pairs of hexadecimal digits spell.
+fn unhex(line: &str) -> Vec<u8> {
+    let digit = |letter: u8| char::from(letter).to_digit(16).expect("a hexadecimal digit") as u8;
+    line.as_bytes().chunks(2).map(|pair| 16 * digit(pair[0]) + digit(pair[1])).collect()
+}
+
 fn main() -> io::Result<()> {
+    let mut out = io::stdout().lock();
+    if std::env::args().nth(1).as_deref() == Some("--lines") {
+        for line in io::stdin().lines() {
+            writeln!(out, "{}", report_on(&unhex(&line?)))?;
+        }
+        return Ok(());
+    }
     let mut input = Vec::new();
     io::stdin().read_to_end(&mut input)?;
-    let text = answer(&input).unwrap_or_else(|refusal| refusal.to_string());
-    io::stdout().write_all(text.as_bytes())
+    out.write_all(report_on(&input).as_bytes())
 }

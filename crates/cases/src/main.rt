@@ -1,44 +1,24 @@
-//! The test program: a line of standard input is a name, a blank and an input in hexadecimal digits.
-//! It prints each name, and after it the report of its input.
+//! The test program. A line of standard input is one of two things:
+//!
+//! - `NAME INPUT`: a name, and an input in hexadecimal digits. It prints the name, and after it the report of the input.
+//! - `made SEED COUNT`: so many inputs are made up from a seed. It prints the line, the first of their reports, and after them how many
+//!   there were of each kind, with a digest of all.
 
 #![tactic(auto)]
 
-ghost use Rattle.std.specs.Prelude.{◌<◌, IfSome};
+mod hex;
+mod made;
+mod random;
+mod trials;
 
 use anyhow::Context;
+use hex::unhex;
 use planning::{LONGEST_REPORT, whole_report};
-use std::alloc::{AllocError, Global};
 use std::io::{BufRead, BufReader, Write};
+use trials::try_made;
 
-/// The value of a hexadecimal digit. Not `to_digit`, which takes capital letters too.
-fn digit(letter: u8) -> Option<u8>
-    ensures { IfSome result (λ d. d < 16) }
-{
-    match letter {
-        b'0'..=b'9' => Some(letter - b'0'),
-        b'a'..=b'f' => Some(letter - b'a' + 10),
-        _ => None,
-    }
-}
-
-/// The byte that a pair of hexadecimal digits spells.
-fn byte_of(pair: &[u8]) -> Option<u8> {
-    let &[high, low] = pair else {
-        return None;
-    };
-    Some(16 * digit(high)? + digit(low)?)
-}
-
-/// The bytes that pairs of hexadecimal digits spell, up to the first pair that is none.
-fn unhex(heap: Global, digits: &[u8]) -> Result<Vec<u8>, AllocError> {
-    let mut bytes = Vec::new(heap);
-    for byte in digits.chunks_exact(2).map_while(byte_of) {
-        bytes.push(byte)?;
-    }
-    Ok(bytes)
-}
-
-fn answer(rt: &HostRuntime, line: &str) -> anyhow::Result<()> {
+/// What stands behind the first word of the line is an input.
+fn answer_input(rt: &HostRuntime, line: &str) -> anyhow::Result<()> {
     let (name, digits) = line.split_once(' ').context("a line without a blank")?;
     let input = unhex(rt.alloc(), digits.as_bytes())?;
     rt.println(name)?;
@@ -46,6 +26,20 @@ fn answer(rt: &HostRuntime, line: &str) -> anyhow::Result<()> {
     rt.stdout()
         .write_all(whole_report(input.as_slice(), &mut out))?;
     Ok(())
+}
+
+/// What stands behind the first word of the line are two numbers.
+fn answer_made(rt: &HostRuntime, line: &str, numbers: &str) -> anyhow::Result<()> {
+    let (seed, count) = numbers.split_once(' ').context("a seed without a count")?;
+    rt.println(line)?;
+    try_made(rt, seed.parse::<u64>()?, count.parse::<u64>()?)
+}
+
+fn answer(rt: &HostRuntime, line: &str) -> anyhow::Result<()> {
+    match line.strip_prefix("made ") {
+        Some(numbers) => answer_made(rt, line, numbers),
+        None => answer_input(rt, line),
+    }
 }
 
 fn main(rt: HostRuntime) -> anyhow::Result<()> {
