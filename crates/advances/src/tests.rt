@@ -5,10 +5,13 @@ mod refusals;
 mod rows;
 mod worked;
 
+use delay::DelayModel;
+use dispatch::Policy;
 use fault::{Cause, Fault, Layer};
 use row_log::Log;
-use run::{Advance, Stop};
+use run::{Advance, Run, Stop};
 use schedule::{JobRow, Summary, SwitchRow};
+use standing::Standing;
 
 /// Plan S.
 const S: [u8; 60] = [
@@ -23,6 +26,32 @@ const ONE: [u8; 31] = [
     0x10, 0x00, 0x00, 0x00, 0x00, 0x00, 0x01, 0x00, 0x00, 0x10, 0x00, 0x01, 0x00, 0x00, 0x00, 0x00,
     0x00, 0x00, 0x00, 0x00, 0x00, 0x00, 0x00, 0x00, 0x00, 0x00, 0x00, 0x00, 0x00, 0x00, 0x00,
 ];
+
+/// How plan S is decided where no job is ever late.
+const HOLDS_13_1_0: Standing = Standing::Holds {
+    instant: 13,
+    sample: 1,
+    earlier: 0,
+};
+
+/// How plan S is decided where the delays are too long for task 1.
+const MISSES_12_1_0: Standing = Standing::Misses {
+    instant: 12,
+    task: 1,
+    job: 0,
+};
+
+/// Advances a run: what it answers, and its clock after it.
+/// This promises nothing, since a proof of a trial has no use for what an advance promises: its values are compared when it runs.
+fn go_on<P: Policy, M: DelayModel>(
+    run: &mut Run<P, M>,
+    ticks: u64,
+    jobs: &mut Log<'_, JobRow>,
+    switches: &mut Log<'_, SwitchRow>,
+) -> (Result<Advance, Fault>, u64) {
+    let answer = run.advance(ticks, jobs, switches);
+    (answer, run.clock())
+}
 
 /// An advance that has done so many ticks.
 fn did(ticks: u64, stop: Stop) -> Result<Advance, Fault> {

@@ -1,6 +1,6 @@
 //! How runs are decided, tick by tick and in one advance, and under rules of a maker's own.
 
-use super::{ONE, S, did, summary};
+use super::{HOLDS_13_1_0, MISSES_12_1_0, ONE, S, did, go_on, summary};
 use customer::{Favourite, FlatCost};
 use delay::{DelayModel, MarkModel, NoDelay, UsefulBlocks};
 use dispatch::{EarliestDeadline, FixedPriority, NonPreemptive, Policy};
@@ -11,7 +11,7 @@ use schedule::{JobRow, Summary, SwitchRow};
 use standing::Standing;
 use std::test::Fail;
 
-/// How a run of a plan of two tasks stands after 20 ticks or when it is decided, and the summaries of its tasks.
+/// How a run of a plan of two tasks stands at instant 20, or earlier where it is decided, and the summaries of its tasks.
 fn decided<P: Policy + Drop, M: DelayModel + Drop>(
     plan: &Plan,
     policy: P,
@@ -26,29 +26,18 @@ fn decided<P: Policy + Drop, M: DelayModel + Drop>(
     (run.standing(), run.summary(0).ok(), run.summary(1).ok())
 }
 
-/// Decided by sample 1 at this instant.
-fn holds(instant: u64) -> Standing {
-    Standing::Holds {
-        instant,
+#[test]
+fn the_first_comparison_may_decide_at_instant_1(rt: HostRuntime) -> Result<(), Fail> {
+    let plan = admit(&ONE)?;
+    let holds_1_1_0 = Standing::Holds {
+        instant: 1,
         sample: 1,
         earlier: 0,
-    }
-}
-
-#[test]
-fn the_first_sample_may_decide_at_instant_1(rt: HostRuntime) -> Result<(), Fail> {
-    let plan = admit(&ONE)?;
-    let mut run = Run::open(&plan, EarliestDeadline, NoDelay::new(&plan));
-    let mut job_rows = [JobRow::default(); 1];
-    let mut switch_rows = [SwitchRow::default(); 1];
-    let mut jobs = Log::over(&mut job_rows);
-    let mut switches = Log::over(&mut switch_rows);
-    assert_eq!(rt;
-        run.advance(1, &mut jobs, &mut switches),
-        did(1, Stop::Closed)
-    );
-    assert_eq!(rt; run.standing(), holds(1));
-    assert_eq!(rt; run.summaries(), [summary((1, 1, 0))].as_slice());
+    };
+    let (standing, first, second) = decided(&plan, EarliestDeadline, NoDelay::new(&plan));
+    assert_eq!(rt; standing, holds_1_1_0);
+    assert_eq!(rt; first, Some(summary((1, 1, 0))));
+    assert_eq!(rt; second, None);
     Ok(())
 }
 
@@ -60,12 +49,7 @@ fn a_late_job_decides(rt: HostRuntime) -> Result<(), Fail> {
         FixedPriority::new(&plan),
         UsefulBlocks::new(&plan),
     );
-    let misses = Standing::Misses {
-        instant: 12,
-        task: 1,
-        job: 0,
-    };
-    assert_eq!(rt; standing, misses);
+    assert_eq!(rt; standing, MISSES_12_1_0);
     assert_eq!(rt; first, Some(summary((2, 2, 0))));
     assert_eq!(rt; second, Some(summary((0, 0, 4))));
     Ok(())
@@ -79,18 +63,19 @@ fn a_run_may_go_tick_by_tick(rt: HostRuntime) -> Result<(), Fail> {
     let mut switch_rows = [SwitchRow::default(); 32];
     let mut jobs = Log::over(&mut job_rows);
     let mut switches = Log::over(&mut switch_rows);
-    for _ in 0..12 {
+    for clock in 1..=13 {
+        let stop = if clock < 13 {
+            Stop::CountReached
+        } else {
+            Stop::Closed
+        };
         assert_eq!(rt;
-            run.advance(1, &mut jobs, &mut switches),
-            did(1, Stop::CountReached)
+            go_on(&mut run, 1, &mut jobs, &mut switches),
+            (did(1, stop), clock)
         );
-        assert_eq!(rt; run.standing(), Standing::Open);
+        assert_eq!(rt; run.standing().is_open(), clock < 13);
     }
-    assert_eq!(rt;
-        run.advance(1, &mut jobs, &mut switches),
-        did(1, Stop::Closed)
-    );
-    assert_eq!(rt; run.standing(), holds(13));
+    assert_eq!(rt; run.standing(), HOLDS_13_1_0);
     assert_eq!(rt;
         run.summaries(),
         [(2, 2, 0), (1, 7, 0)].map(summary).as_slice()
@@ -111,16 +96,12 @@ fn decided_by_own_rules(plan: &Plan, cost: u16) -> (Standing, Option<Summary>, O
 fn rules_of_a_makers_own_decide(rt: HostRuntime) -> Result<(), Fail> {
     let plan = admit(&S)?;
     let (standing, first, second) = decided_by_own_rules(&plan, 1);
-    assert_eq!(rt; standing, holds(13));
+    assert_eq!(rt; standing, HOLDS_13_1_0);
     assert_eq!(rt; first, Some(summary((2, 2, 0))));
     assert_eq!(rt; second, Some(summary((1, 11, 2))));
-    let (standing, _, second) = decided_by_own_rules(&plan, 2);
-    let misses = Standing::Misses {
-        instant: 12,
-        task: 1,
-        job: 0,
-    };
-    assert_eq!(rt; standing, misses);
+    let (standing, first, second) = decided_by_own_rules(&plan, 2);
+    assert_eq!(rt; standing, MISSES_12_1_0);
+    assert_eq!(rt; first, Some(summary((2, 2, 0))));
     assert_eq!(rt; second, Some(summary((0, 0, 4))));
     Ok(())
 }
@@ -135,7 +116,7 @@ fn a_layer_stands_over_a_rule_of_a_makers_own(rt: HostRuntime) -> Result<(), Fai
         },
     };
     let (standing, first, second) = decided(&plan, policy, MarkModel::with(FlatCost::new(64)));
-    assert_eq!(rt; standing, holds(13));
+    assert_eq!(rt; standing, HOLDS_13_1_0);
     assert_eq!(rt; first, Some(summary((2, 6, 0))));
     assert_eq!(rt; second, Some(summary((1, 5, 0))));
     Ok(())

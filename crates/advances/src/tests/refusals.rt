@@ -1,6 +1,6 @@
 //! What an advance refuses, and that a refusal changes nothing.
 
-use super::{S, did, has_rows, job_row, refusal};
+use super::{MISSES_12_1_0, S, did, go_on, has_rows, job_row, refusal};
 use delay::UsefulBlocks;
 use dispatch::FixedPriority;
 use fault::Cause;
@@ -18,19 +18,18 @@ fn an_advance_by_too_many_ticks_is_refused(rt: HostRuntime) -> Result<(), Fail> 
     let mut switch_rows = [SwitchRow::default(); 8];
     let mut jobs = Log::over(&mut []);
     let mut switches = Log::over(&mut switch_rows);
-    for ticks in [1_000_000_001, u64::MAX] {
+    for (ticks, answer) in [
+        (1_000_000_001, Err(refusal(Cause::AdvanceTooLong))),
+        (u64::MAX, Err(refusal(Cause::AdvanceTooLong))),
+        (1_000_000_000, did(0, Stop::JobLogFull)),
+    ] {
         assert_eq!(rt;
-            run.advance(ticks, &mut jobs, &mut switches),
-            Err(refusal(Cause::AdvanceTooLong))
+            go_on(&mut run, ticks, &mut jobs, &mut switches),
+            (answer, 0)
         );
-        assert_eq!(rt; run.clock(), 0);
-        assert_eq!(rt; run.standing(), Standing::Open);
         assert!(rt; has_rows(&jobs, &[]) && has_rows(&switches, &[]));
     }
-    assert_eq!(rt;
-        run.advance(1_000_000_000, &mut jobs, &mut switches),
-        did(0, Stop::JobLogFull)
-    );
+    assert_eq!(rt; run.standing(), Standing::Open);
     Ok(())
 }
 
@@ -42,27 +41,18 @@ fn a_run_with_a_late_job_is_closed(rt: HostRuntime) -> Result<(), Fail> {
     let mut switch_rows = [SwitchRow::default(); 8];
     let mut jobs = Log::over(&mut job_rows);
     let mut switches = Log::over(&mut switch_rows);
-    let misses = Standing::Misses {
-        instant: 12,
-        task: 1,
-        job: 0,
-    };
-    assert_eq!(rt;
-        run.advance(12, &mut jobs, &mut switches),
-        did(12, Stop::Closed)
-    );
-    for (ticks, cause) in [
-        (0, Cause::RunClosed),
-        (1_000_000_000, Cause::RunClosed),
-        (1_000_000_001, Cause::AdvanceTooLong),
+    for (ticks, answer) in [
+        (12, did(12, Stop::Closed)),
+        (0, Err(refusal(Cause::RunClosed))),
+        (1_000_000_000, Err(refusal(Cause::RunClosed))),
+        (1_000_000_001, Err(refusal(Cause::AdvanceTooLong))),
     ] {
-        assert_eq!(rt; run.standing(), misses);
         assert_eq!(rt;
-            run.advance(ticks, &mut jobs, &mut switches),
-            Err(refusal(cause))
+            go_on(&mut run, ticks, &mut jobs, &mut switches),
+            (answer, 12)
         );
-        assert_eq!(rt; run.clock(), 12);
         assert!(rt; has_rows(&jobs, &[(0, 0, 1, 3, 0), (0, 1, 7, 9, 0)].map(job_row)));
     }
+    assert_eq!(rt; run.standing(), MISSES_12_1_0);
     Ok(())
 }

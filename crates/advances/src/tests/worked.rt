@@ -1,6 +1,6 @@
 //! The worked advances of plan S under fixed priority with loaded blocks, in their order.
 
-use super::{S, did, has_rows, job_row, refusal};
+use super::{HOLDS_13_1_0, S, did, go_on, has_rows, job_row, refusal};
 use delay::LoadedBlocks;
 use dispatch::FixedPriority;
 use fault::Cause;
@@ -20,21 +20,20 @@ fn without_room(rt: &impl Abort, run: &mut Worked) {
     let mut jobs = Log::over(&mut []);
     let mut switches = Log::over(&mut []);
     assert_eq!(rt;
-        run.advance(0, &mut jobs, &mut switches),
-        did(0, Stop::CountReached)
+        go_on(run, 0, &mut jobs, &mut switches),
+        (did(0, Stop::CountReached), 0)
     );
     assert_eq!(rt;
-        run.advance(1, &mut jobs, &mut switches),
-        did(0, Stop::JobLogFull)
+        go_on(run, 1, &mut jobs, &mut switches),
+        (did(0, Stop::JobLogFull), 0)
     );
     let mut job_rows = [JobRow::default(); 1];
     let mut jobs = Log::over(&mut job_rows);
     assert_eq!(rt;
-        run.advance(1, &mut jobs, &mut switches),
-        did(0, Stop::SwitchLogFull)
+        go_on(run, 1, &mut jobs, &mut switches),
+        (did(0, Stop::SwitchLogFull), 0)
     );
     assert!(rt; has_rows(&jobs, &[]));
-    assert_eq!(rt; run.clock(), 0);
 }
 
 /// From instant 0 to 9, with a switch log that has room for all.
@@ -42,25 +41,21 @@ fn to_instant_9(rt: &impl Abort, run: &mut Worked, jobs: &mut Log<'_, JobRow>) {
     let mut switch_rows = [SwitchRow::default(); 9];
     let mut switches = Log::over(&mut switch_rows);
     assert_eq!(rt;
-        run.advance(100, jobs, &mut switches),
-        did(3, Stop::JobLogFull)
+        go_on(run, 100, jobs, &mut switches),
+        (did(3, Stop::JobLogFull), 3)
     );
-    assert_eq!(rt; run.clock(), 3);
     assert!(rt; has_rows(jobs, &[job_row((0, 0, 1, 3, 0))]));
     assert!(rt; jobs.row(1) == Err(refusal(Cause::NoSuchEntry)));
-    assert_eq!(rt; run.clock(), 3);
     jobs.clear();
     assert_eq!(rt;
-        run.advance(6, jobs, &mut switches),
-        did(6, Stop::CountReached)
+        go_on(run, 6, jobs, &mut switches),
+        (did(6, Stop::CountReached), 9)
     );
-    assert_eq!(rt; run.clock(), 9);
     assert!(rt; has_rows(jobs, &[job_row((0, 1, 7, 9, 0))]));
     assert_eq!(rt;
-        run.advance(1, jobs, &mut switches),
-        did(0, Stop::JobLogFull)
+        go_on(run, 1, jobs, &mut switches),
+        (did(0, Stop::JobLogFull), 9)
     );
-    assert_eq!(rt; run.clock(), 9);
     assert!(rt; has_rows(jobs, &[job_row((0, 1, 7, 9, 0))]));
 }
 
@@ -70,31 +65,24 @@ fn to_instant_13(rt: &impl Abort, run: &mut Worked, jobs: &mut Log<'_, JobRow>) 
     jobs.clear();
     let mut switches = Log::over(&mut switch_rows[0..1]);
     assert_eq!(rt;
-        run.advance(100, jobs, &mut switches),
-        did(1, Stop::SwitchLogFull)
+        go_on(run, 100, jobs, &mut switches),
+        (did(1, Stop::SwitchLogFull), 10)
     );
-    assert_eq!(rt; run.clock(), 10);
     assert!(rt; has_rows(jobs, &[]));
     let mut switches = Log::over(&mut switch_rows);
     assert_eq!(rt;
-        run.advance(100, jobs, &mut switches),
-        did(2, Stop::JobLogFull)
+        go_on(run, 100, jobs, &mut switches),
+        (did(2, Stop::JobLogFull), 12)
     );
-    assert_eq!(rt; run.clock(), 12);
     assert!(rt; has_rows(jobs, &[job_row((1, 0, 0, 12, 3))]));
     jobs.clear();
     let mut switches = Log::over(&mut switch_rows[0..1]);
-    assert_eq!(rt; run.advance(100, jobs, &mut switches), did(1, Stop::Closed));
-    assert_eq!(rt; run.clock(), 13);
+    assert_eq!(rt;
+        go_on(run, 100, jobs, &mut switches),
+        (did(1, Stop::Closed), 13)
+    );
     assert!(rt; has_rows(jobs, &[]));
 }
-
-/// How plan S under fixed priority with loaded blocks is decided.
-const HOLDS_13_1_0: Standing = Standing::Holds {
-    instant: 13,
-    sample: 1,
-    earlier: 0,
-};
 
 /// At instant 13 the run is closed, and stays so.
 fn closed(rt: &impl Abort, run: &mut Worked, jobs: &mut Log<'_, JobRow>) {
@@ -102,15 +90,12 @@ fn closed(rt: &impl Abort, run: &mut Worked, jobs: &mut Log<'_, JobRow>) {
     let mut switches = Log::over(&mut switch_rows);
     assert_eq!(rt; run.standing(), HOLDS_13_1_0);
     assert_eq!(rt;
-        run.advance(0, jobs, &mut switches),
-        Err(refusal(Cause::RunClosed))
+        go_on(run, 0, jobs, &mut switches),
+        (Err(refusal(Cause::RunClosed)), 13)
     );
-    assert_eq!(rt;
-        run.advance(1_000_000_001, jobs, &mut switches),
-        Err(refusal(Cause::AdvanceTooLong))
-    );
+    let too_long = go_on(run, 1_000_000_001, jobs, &mut switches);
+    assert_eq!(rt; too_long, (Err(refusal(Cause::AdvanceTooLong)), 13));
     assert_eq!(rt; run.standing(), HOLDS_13_1_0);
-    assert_eq!(rt; run.clock(), 13);
     assert!(rt; has_rows(jobs, &[]) && has_rows(&switches, &[]));
 }
 
