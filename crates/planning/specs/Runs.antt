@@ -42,6 +42,6 @@ longest_report = 1428
 abbrev pub Answers : Setting → List ℕ → List ℕ → Result ℕ Fault → Type 0
 Answers c before after r = Written longest_report (run_text c) before after r
 
--- MISSES names the first late job, HOLDS is told only where no job is ever late, and OPEN only as long as the samples may differ.
+-- MISSES names the first late job where that has been reached, HOLDS is told only where no job is ever late, and OPEN only before the instant by which equal samples are found.
 abbrev pub Decided : Setting → Type 0
 Decided c = Decision c (report_instant c) (standing_at c (report_instant c))
