@@ -68,7 +68,7 @@ class Module:
     items: list = field(default_factory=list)
     children: dict = field(default_factory=dict)
     uses: list = field(default_factory=list)     # pairs of a path and the name that it is re-exported as
-    imports: dict = field(default_factory=dict)  # what `ghost use` brings of specs/: the name, and the file that it stands in
+    imports: dict = field(default_factory=dict)  # what it brings of specs/: each name, with the file and the name that it stands for
 
 
 @dataclass
@@ -82,12 +82,12 @@ class Call:
     is_fn: bool = True
 
 
-def ghost_imports(text):
-    """What the lines `ghost use` bring of some crate's specs/, but for the library's and for the types of src/."""
+def imported(text):
+    """What the lines `use` and `ghost use` bring of some crate's specs/, but for the library's and for the types of src/."""
     found = {}
-    for path, names in re.findall(r"^ghost use ([\w.]+)\.\{([^}]*)\};", text, re.M):
+    for path, names in re.findall(r"^(?:ghost )?use ([\w.]+)\.\{([^}]*)\}", text, re.M):
         parts = path.split(".")
-        if parts[1] != "std" and parts[2:3] == ["specs"] and "declared" not in parts:
+        if parts[1:2] != ["std"] and parts[2:3] == ["specs"] and "declared" not in parts:
             for name in names.split(","):
                 origin, _, alias = name.strip().partition(" as ")
                 found[alias or origin] = (f"{parts[1]}/specs/{'/'.join(parts[3:])}", origin)
@@ -146,7 +146,7 @@ def exported(code, start):
 def read_module(path, file, seen):
     text = file.read_text(encoding="utf-8")
     code, module, at = blanked(text), Module(path, file, seen), 0
-    module.imports = ghost_imports(text)
+    module.imports = imported(text)
     while found := HEAD.search(code, at):
         kind = found["kind"] or found["impl"] or found["fn"]
         own = (found["seen"] or "").strip()
@@ -281,6 +281,7 @@ def calls_of(top):
 # ------------------------------------------------------------------ specs/ and proofs/
 DECLARED = re.compile(r"^( {2})?((?:abbrev |unfoldable |pub )*)(?:(?:record|data) ([^\s(){}:]+)|([^\s(){}:]+) :(?= |$))")
 OTHER = re.compile(r"^(use|pub mod|mod|module)\b")
+RENAMED = re.compile(r"^use Rattle\.(\w+)\.specs\.([\w.]+) as (\w+)", re.M)
 
 
 @dataclass
@@ -309,3 +310,15 @@ def declarations(file):
     for it in found:
         it.text = it.text.rstrip()
     return found
+
+
+def resting(file, crates):
+    """Each declaration of a file of specs/ or proofs/, by file and name: its text, and the definitions that it names."""
+    text, found = file.read_text(encoding="utf-8"), declarations(file)
+    where = str(file.relative_to(crates).with_suffix(""))
+    imports = {it.name: (where, it.name) for it in found} | imported(text)
+    for it in found:
+        named = cited({name: of for name, of in imports.items() if name != it.name}, [it.text])
+        for crate, path, alias in RENAMED.findall(text):
+            named.setdefault(f"{crate}/specs/{path.replace('.', '/')}", []).extend(re.findall(rf"\b{alias}\.(\w+)", it.text))
+        yield f"{where}: {it.name}", it.text, {f"{of}: {name}" for of, names in named.items() for name in names}
