@@ -120,6 +120,15 @@ HEAD = re.compile(
 )
 
 
+def functions(file):
+    """All functions of a file of src/, tests too."""
+    text = file.read_text(encoding="utf-8")
+    code, at = blanked(text), 0
+    while found := FUNCTION.search(code, at):
+        function, at = function_at(text, code, found)
+        yield function
+
+
 def members(text, code, start, end, item):
     """Fills in the functions and the ghost members between two places."""
     at = start
@@ -279,8 +288,8 @@ def calls_of(top):
 
 
 # ------------------------------------------------------------------ specs/ and proofs/
-DECLARED = re.compile(r"^( {2})?((?:abbrev |unfoldable |pub )*)(?:(?:record|data) ([^\s(){}:]+)|([^\s(){}:]+) :(?= |$))")
-OTHER = re.compile(r"^(use|pub mod|mod|module)\b")
+DECLARED = re.compile(r"^( *)((?:abbrev |unfoldable |pub )*)(?:(?:record|data) ([^\s(){}:]+)|([^\s(){}:]+) :(?= |$))")
+OTHER = re.compile(r"^ *(use|pub mod|mod|module)\b")
 RENAMED = re.compile(r"^use Rattle\.(\w+)\.specs\.([\w.]+) as (\w+)", re.M)
 
 
@@ -293,16 +302,17 @@ class Declaration:
 
 def declarations(file):
     """What a file of specs/ or proofs/ declares at its top or in a module of it, in its order."""
-    found, inside, last = [], False, None
+    found, last, depth = [], None, 0
     for number, line in enumerate(file.read_text(encoding="utf-8").splitlines(), 1):
         if line.lstrip().startswith("--"):
             continue
-        if OTHER.match(line):
-            inside, last = line.startswith("module"), None
-            continue
-        inside = inside and (not line or line.startswith(" "))
-        declared = DECLARED.match(line)
-        if declared and bool(declared[1]) == inside:
+        here = len(line) - len(line.lstrip())
+        # what a module declares stands two places further in than the module, and ends where a line stands further out
+        depth = min(depth, here) if line else depth
+        other, declared = here == depth and OTHER.match(line), DECLARED.match(line)
+        if other:
+            last, depth = None, depth + 2 if other[1] == "module" else depth
+        elif declared and here == depth:
             last = Declaration(declared[3] or declared[4], number, line)
             found.append(last)
         elif last:
