@@ -3,9 +3,10 @@ use Rattle.std.specs.Prelude.{◌≡◌, ℕ, zero, suc, ◌+◌, ◌-◌, ◌<�
 use Rattle.std.proofs.Common.{eqb, leb, sym, ap, ◌∙◌, subst, ⊎_elim, arith}
 use Rattle.std.proofs.lemmas.Bool.{cases_Bool, cases_lt, eq-eqb}
 use Rattle.std.proofs.lemmas.Bool.Decides.{nat_tests}
-use Rattle.planning.specs.Runs.{reached_in}
+use Rattle.planning.specs.Following.{Followed}
+use Rattle.planning.specs.Runs.{reached_in, report_instant}
 use Rattle.run.specs.Advances.{Asking, Went, stop_after, stop_of}
-use Rattle.run.specs.Runs.{Shown}
+use Rattle.run.specs.Runs.{Shown, shown_at}
 use Rattle.run.specs.Written.{job_in, switch_in, written}
 use Rattle.run.specs.declared.advances.Advance.{Advance}
 use Rattle.schedule.specs.States.{Setting}
@@ -23,7 +24,22 @@ done_stops : (o j s : Bool) → stop_of o true j s ≡ None → ⊥
 done_stops true j s e = cc
 done_stops false j s e = cc
 
-module _ (c : Setting) (q : Asking) (x y : Shown) (a : Advance) (w : Went c q x y a) where
+-- where logs have room and ticks are asked for, an open run goes on
+pub goes_on : (c : Setting) (q : Asking) (t : ℕ) → is_open (standing_at c t) ≡ true → 0 < q.ticks → 0 < q.job_rows → 0 < q.switch_rows → stop_after c t q 0 ≡ None
+unfolding written
+goes_on c q t o n j s =
+    let here : t + 0 ≡ t = omega arith in
+    λ i. stop_of ((ap (λ (u : ℕ). is_open (standing_at c u)) here ∙ o) i) (not_zero q.ticks n i) (not_reached q.job_rows j i) (not_reached q.switch_rows s i)
+  where
+    not_zero : (k : ℕ) → 0 < k → eqb 0 k ≡ false
+    not_zero k h = grind (arith, nat_tests)
+
+    not_reached : (k : ℕ) → 0 < k → leb k 0 ≡ false
+    not_reached k h = grind (arith, nat_tests)
+
+-- ---- a run that is followed, one advance further
+
+module _ {c : Setting} {q : Asking} {x y : Shown} {a : Advance} (w : Went c q x y a) where
   pub no_more : a.ticks ≤ q.ticks
   no_more = ⊎_elim (λ l. absurd (over l)) (λ l. l) (cases_lt q.ticks a.ticks)
     where
@@ -36,6 +52,26 @@ module _ (c : Setting) (q : Asking) (x y : Shown) (a : Advance) (w : Went c q x 
 
   pub was_undecided : (u : ℕ) → u < a.ticks → is_open (standing_at c (x.clock + u)) ≡ true
   was_undecided u l = going_open _ (eqb u q.ticks) (leb q.job_rows (length (written (job_in c) x.clock u))) (leb q.switch_rows (length (written (switch_in c) x.clock u))) (w.going u l)
+
+  pub led_clock : y.clock ≡ x.clock + a.ticks
+  led_clock = ap (λ (z : Shown). z.clock) w.led
+
+  pub moved_on : stop_after c x.clock q 0 ≡ None → x.clock < y.clock
+  moved_on none = ⊎_elim (λ l. absurd (still l)) (λ l. omega (arith, led_clock, l)) (cases_lt a.ticks 1)
+    where
+      still : a.ticks < 1 → ⊥
+      still l =
+          let zeroth : a.ticks ≡ 0 = omega (arith, l) in
+          let stopped = subst (λ (n : ℕ). stop_after c x.clock q n ≡ Some a.stop) zeroth w.stopped in
+          cc (none, stopped)
+
+  pub undecided_on : ((u : ℕ) → u < x.clock → is_open (standing_at c u) ≡ true) → (u : ℕ) → u < y.clock → is_open (standing_at c u) ≡ true
+  undecided_on before u l = ⊎_elim (before u) later (cases_lt u x.clock)
+    where
+      later : x.clock ≤ u → is_open (standing_at c u) ≡ true
+      later m =
+          let split : u ≡ x.clock + (u - x.clock) = omega (arith, m) in
+          ap (λ (v : ℕ). is_open (standing_at c v)) split ∙ was_undecided (u - x.clock) (omega (arith, m, l, led_clock))
 
 -- ---- the instant of the report
 
@@ -55,7 +91,7 @@ reached_decided c t (suc k) here e =
     ap (reached_in c) next
     ∙ ((λ i. cond (is_open (standing_at c (before i))) (suc (before i)) (before i)) ∙ ap (λ (b : Bool). cond b (suc t) t) e)
 
-pub reaches : (c : Setting) (n t : ℕ) → ((u : ℕ) → u < t → is_open (standing_at c u) ≡ true) → t ≤ n → (is_open (standing_at c t) ≡ true → t ≡ n) → reached_in c n ≡ t
+reaches : (c : Setting) (n t : ℕ) → ((u : ℕ) → u < t → is_open (standing_at c u) ≡ true) → t ≤ n → (is_open (standing_at c t) ≡ true → t ≡ n) → reached_in c n ≡ t
 reaches c n t h l last = ⊎_elim still decided (cases_Bool (is_open (standing_at c t)))
   where
     here : reached_in c t ≡ t
@@ -67,38 +103,6 @@ reaches c n t h l last = ⊎_elim still decided (cases_Bool (is_open (standing_a
     decided : is_open (standing_at c t) ≡ false → reached_in c n ≡ t
     decided e = let far : n ≡ n - t + t = omega (arith, l) in ap (reached_in c) far ∙ reached_decided c t (n - t) here e
 
--- ---- a run that is followed, one advance further
-
--- where logs have room and ticks are asked for, an open run goes on
-pub goes_on : (c : Setting) (q : Asking) (t : ℕ) → is_open (standing_at c t) ≡ true → 0 < q.ticks → 0 < q.job_rows → 0 < q.switch_rows → stop_after c t q 0 ≡ None
-unfolding written
-goes_on c q t o n j s =
-    let here : t + 0 ≡ t = omega arith in
-    λ i. stop_of ((ap (λ (u : ℕ). is_open (standing_at c u)) here ∙ o) i) (not_zero q.ticks n i) (not_reached q.job_rows j i) (not_reached q.switch_rows s i)
-  where
-    not_zero : (k : ℕ) → 0 < k → eqb 0 k ≡ false
-    not_zero k h = grind (arith, nat_tests)
-
-    not_reached : (k : ℕ) → 0 < k → leb k 0 ≡ false
-    not_reached k h = grind (arith, nat_tests)
-
-module _ (c : Setting) (q : Asking) (x y : Shown) (a : Advance) (w : Went c q x y a) where
-  pub led_clock : y.clock ≡ x.clock + a.ticks
-  led_clock = ap (λ (z : Shown). z.clock) w.led
-
-  pub moved_on : stop_after c x.clock q 0 ≡ None → x.clock < y.clock
-  moved_on none = ⊎_elim (λ l. absurd (still l)) (λ l. omega (arith, led_clock, l)) (cases_lt a.ticks 1)
-    where
-      still : a.ticks < 1 → ⊥
-      still l =
-          let zeroth : a.ticks ≡ 0 = omega (arith, l) in
-          let stopped = subst (λ (n : ℕ). stop_after c x.clock q n ≡ Some a.stop) zeroth w.stopped in
-          cc (none, stopped)
-
-  pub undecided_on : ((u : ℕ) → u < x.clock → is_open (standing_at c u) ≡ true) → (u : ℕ) → u < y.clock → is_open (standing_at c u) ≡ true
-  undecided_on before u l = ⊎_elim (before u) later (cases_lt u x.clock)
-    where
-      later : x.clock ≤ u → is_open (standing_at c u) ≡ true
-      later m =
-          let split : u ≡ x.clock + (u - x.clock) = omega (arith, m) in
-          ap (λ (v : ℕ). is_open (standing_at c v)) split ∙ was_undecided c q x y a w (u - x.clock) (omega (arith, m, l, led_clock))
+-- so what a run shows that stopped being followed is what is reported
+pub reported : {c : Setting} {x : Shown} → Followed c x → x ≡ shown_at c x.clock → (is_open (standing_at c x.clock) ≡ true → x.clock ≡ 20000000) → x ≡ shown_at c (report_instant c)
+reported {c} {x} h here last = here ∙ ap (shown_at c) (sym (reaches c 20000000 x.clock h.undecided h.near last))
