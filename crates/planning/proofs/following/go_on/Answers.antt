@@ -24,5 +24,4 @@ returns-clause-further g c =
     let undecided = ap is_open (sym c.args.run.now.decided) ∙ c.requires.undecided in
     let jobs : 0 < free c.args.jobs.now = omega (arith, ap length c.requires.jobs.none, c.requires.jobs.some) in
     let switches : 0 < free c.args.switches.now = omega (arith, ap length c.requires.switches.none, c.requires.switches.some) in
-    let ticks : 0 < 20000000 - c.clock.result = omega (arith, c.clock.ensures, c.requires.early) in
-    moved_on (c.in_ok-advance.ensures.answered).1 (goes_on _ _ _ undecided ticks jobs switches)
+    moved_on (c.in_ok-advance.ensures.answered).1 (goes_on _ _ _ undecided (omega (arith, c.clock.ensures, c.requires.early)) jobs switches)
