@@ -1,4 +1,4 @@
-use Rattle.std.proofs.Common.{◌-◌, ◌<◌, length, refl, sym, ap, ◌∙◌, subst, arith}
+use Rattle.std.proofs.Common.{◌<◌, length, refl, sym, ap, ◌∙◌, subst, arith}
 use Rattle.planning.proofs.Reaching.{led_clock, goes_on, moved_on, no_more, undecided_on}
 use Rattle.planning.proofs.following.go_on.Goals as goal
 use Rattle.planning.specs.Following.{Followed}
