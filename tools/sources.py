@@ -298,11 +298,12 @@ class Declaration:
     name: str
     line: int
     text: str            # without comments; white space as it stands
+    under: str           # the heads of the modules that it stands in, whose parameters are its own too
 
 
 def declarations(file):
     """What a file of specs/ or proofs/ declares at its top or in a module of it, in its order."""
-    found, last, depth = [], None, 0
+    found, last, depth, heads = [], None, 0, {}
     for number, line in enumerate(file.read_text(encoding="utf-8").splitlines(), 1):
         if line.lstrip().startswith("--"):
             continue
@@ -312,11 +313,14 @@ def declarations(file):
         other, declared = here == depth and OTHER.match(line), DECLARED.match(line)
         if other:
             last, depth = None, depth + 2 if other[1] == "module" else depth
+            heads[depth] = line
         elif declared and here == depth:
-            last = Declaration(declared[3] or declared[4], number, line)
+            last = Declaration(declared[3] or declared[4], number, line, " ".join(heads[it] for it in sorted(heads) if 0 < it <= depth))
             found.append(last)
         elif last:
             last.text += f"\n{line}"
+        elif depth:
+            heads[depth] += f" {line}"
     for it in found:
         it.text = it.text.rstrip()
     return found
@@ -328,7 +332,7 @@ def resting(file, crates):
     where = str(file.relative_to(crates).with_suffix(""))
     imports = {it.name: (where, it.name) for it in found} | imported(text)
     for it in found:
-        named = cited({name: of for name, of in imports.items() if name != it.name}, [it.text])
+        named = cited({name: of for name, of in imports.items() if name != it.name}, [it.under, it.text])
         for crate, path, alias in RENAMED.findall(text):
             named.setdefault(f"{crate}/specs/{path.replace('.', '/')}", []).extend(re.findall(rf"\b{alias}\.(\w+)", it.text))
-        yield f"{where}: {it.name}", it.text, {f"{of}: {name}" for of, names in named.items() for name in names}
+        yield f"{where}: {it.name}", f"{it.under} {it.text}", {f"{of}: {name}" for of, names in named.items() for name in names}
