@@ -41,8 +41,7 @@ const MISSES_12_1_0: Standing = Standing::Misses {
     job: 0,
 };
 
-/// Advances a run: what it answers, and its clock after it.
-/// This promises nothing, since a proof of a trial has no use for what an advance promises: its values are compared when it runs.
+/// What an advance answers, and the clock after it.
 fn go_on<P: Policy, M: DelayModel>(
     run: &mut Run<P, M>,
     ticks: u64,
