@@ -11,6 +11,8 @@ use delay::DelayModel;
 
 impl Schedule {
     /// A tick in which this task has the core.
+    // a hint to the compiler: made a call of, it would write out and copy the rows of every tick
+    #[inline(always)]
     fn serve<M: DelayModel>(&mut self, model: &mut M, task: usize) -> TickRows
         requires known { task < length (tasks_of self.old) }
         requires before { clock_of self.old < 1000000000000 }
@@ -43,6 +45,7 @@ impl Schedule {
     }
 
     /// The rest of a tick after the choice.
+    #[inline(always)]
     pub(super) fn pass<M: DelayModel>(&mut self, model: &mut M, choice: Option<usize>) -> TickRows
         requires known { IfSome choice (λ task. task < length (tasks_of self.old)) }
         requires before { clock_of self.old < 1000000000000 }
