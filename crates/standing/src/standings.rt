@@ -35,22 +35,27 @@ impl Standing {
         }
     }
 
-    /// The standing once this has been seen at an instant.
-    pub fn after(self, instant: u64, event: Event) -> Standing
-        ensures { result ≡ moved instant self event }
+    /// Moves the standing by what has been seen at an instant. Nothing is written where it stays.
+    pub fn see(&mut self, instant: u64, event: Event)
+        ensures { self.new ≡ moved instant self.old event }
     {
-        match (self, event) {
-            (Standing::Open, Event::Late(late)) => Standing::Misses {
-                instant,
-                task: late.task,
-                job: late.job,
-            },
-            (Standing::Open, Event::Repeats(repeat)) => Standing::Holds {
-                instant,
-                sample: repeat.sample,
-                earlier: repeat.earlier,
-            },
-            (standing, _) => standing,
+        match (*self, event) {
+            (Standing::Open, Event::Late(late)) => {
+                *self = Standing::Misses {
+                    instant,
+                    task: late.task,
+                    job: late.job,
+                };
+            }
+            (Standing::Open, Event::Repeats(repeat)) => {
+                *self = Standing::Holds {
+                    instant,
+                    sample: repeat.sample,
+                    earlier: repeat.earlier,
+                };
+            }
+            (Standing::Open, Event::Nothing)
+            | (Standing::Misses { .. } | Standing::Holds { .. }, _) => {}
         }
     }
 }

@@ -36,7 +36,7 @@ impl<P: Policy, M: DelayModel> Run<P, M> {
         write(jobs, rows.job);
         write(switches, rows.switch);
         let event = examine(follower, watch);
-        *standing = standing.after(follower.clock(), event);
+        standing.see(follower.clock(), event);
     }
 }
 

@@ -64,6 +64,8 @@ impl JobTable {
     }
 
     /// Gives the core to a task for one tick.
+    // a hint to the compiler, as on `Schedule::serve`: a call would write its answer out at every tick
+    #[inline(always)]
     pub(crate) fn serve<M: DelayModel>(
         &mut self,
         model: &mut M,

@@ -25,7 +25,7 @@ invariant_of-self g c =
     record {
       watching = c.examine-event.ensures.watching;
       decided =
-          c.after.ensures
+          c.see.ensures
           ∙ (ap (λ (u : ℕ). moved u old.standing c.examine-event.result) c.clock.ensures
           ∙ standing_on (followed new) t (clock_in new) old.standing c.examine-event.result stood c.examine-event.ensures.event made.clock);
       counted = subst (λ (z : Setting). take (length z.tasks) c.count.new.self.rows ≡ summaries z (clock_in new)) (sym made.setting) told;
