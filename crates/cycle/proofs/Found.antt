@@ -1,7 +1,6 @@
 -- The comparison comes to an answer.
 use Rattle.std.proofs.Common.{◌≡◌, ℕ, suc, ◌+◌, ◌-◌, ◌*◌, ◌^◌, ◌<◌, ◌≤◌, max, List, length, get_or, sym, ap, ◌∙◌, arith}
 use mathlib.Core.List.{Memᴰ}
-use native.Mathlib.Decide.{dec_le}
 use Rattle.cycle.specs.Comparisons.{compared_with}
 use Rattle.cycle.specs.Machines.{Machine, sample}
 use Rattle.cycle.specs.Theorems.{Among, FoundBy, FoundSoon}
@@ -70,15 +69,6 @@ found_again m V n a w =
       soon = omega arith;
       equal = again_later m a.first a.second p a.ordered a.equal (omega arith) ∙ ap (sample m) (sym c);
     }
-
--- while none of the samples 1 to n equals the one that it is compared with, n + 1 is less than 3 × V
-pub not_yet : {S : Type 0} (m : Machine S) (V n : ℕ) → Again m V
-    → ((k : ℕ) → 1 ≤ k → k ≤ n → sample m k ≡ sample m (compared_with k) → ⊥) → suc n < 3 * V
-not_yet m V n a none = go (dec_le (3 * V) (suc n))
-  where
-    go : Dec (3 * V ≤ suc n) → suc n < 3 * V
-    go (yes h) = let f = found_again m V n a h in absurd (none f.number f.positive f.soon f.equal)
-    go (no h) = omega arith
 
 pub found_soon : (S : Type 0) → FoundSoon S
 found_soon S m V a = found_again m V (3 * V) (again_among m V a) (omega arith)

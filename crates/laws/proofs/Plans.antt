@@ -1,13 +1,13 @@
 -- What an admitted plan says of each of its tasks.
 use Rattle.std.proofs.Common.{◌≡◌, ℕ, zero, suc, ◌*◌, ◌/◌, ◌%◌, ◌<◌, ◌≤◌, true, eqb, List, [], ◌∷◌, length, get_or, sym, arith}
 use Prim.Native.Nat.{◌∣◌}
-use native.Mathlib.Nat.{div-mul_cancel, dvd_antisymm, dvd_of_mod-eq-zero}
+use native.Mathlib.Nat.{div-mul_cancel, dvd_of_mod-eq-zero}
 use Rattle.std.proofs.lemmas.List.{length-take}
 use Rattle.std.proofs.lemmas.Bool.{and_parts, eqb-true}
 use Rattle.delay.specs.Profiles.{Profile}
 use Rattle.dispatch.specs.Rules.{Rule}
 use Rattle.plan.proofs.TaskTimes.{Times, times_at}
-use Rattle.plan.specs.Periods.{IsLcm, common}
+use Rattle.plan.specs.Periods.{common}
 use Rattle.plan.specs.Tasks.{greatest, offsets, periods, zero_task}
 use Rattle.plan.specs.declared.admitted.Plan.{Plan}
 use Rattle.plan.specs.declared.tasks.Task.{Task}
@@ -22,10 +22,6 @@ admitted_plan p rule profile = record {
   keeping = p.keeping;
   repeating = p.repeating;
 }
-
--- numbers have one least common multiple
-pub lcm_one : (m n : ℕ) (ts : List ℕ) → IsLcm m ts → IsLcm n ts → m ≡ n
-lcm_one m n ts a b = dvd_antisymm (a.2 n b.1) (b.2 m a.1)
 
 pub offset_reached : (ks : List Task) (i : ℕ) → i < length ks → (get_or ks i zero_task).offset ≤ greatest (offsets ks)
 offset_reached [] i l = absurd (omega arith)

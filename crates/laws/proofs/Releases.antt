@@ -1,12 +1,12 @@
 -- What the releases of an instant do to one task.
-use Rattle.std.proofs.Common.{◌≡◌, ℕ, suc, ◌<◌, cond, length, get_or, arith}
+use Rattle.std.proofs.Common.{◌≡◌, ℕ, ◌<◌, cond, length, get_or, arith}
 use Rattle.std.proofs.lemmas.List.{get_or-replicate}
 use Rattle.plan.specs.Tasks.{zero_task}
 use Rattle.schedule.proofs.Eaches.{each_at}
 use Rattle.schedule.specs.Jobs.{counted, due, entered, vacant}
 use Rattle.schedule.specs.Schedules.{moment, state_at}
 use Rattle.schedule.specs.States.{Setting, next_of, slot_of, task_of}
-use Rattle.schedule.specs.Ticks.{released, tick}
+use Rattle.schedule.specs.Ticks.{released}
 use Rattle.laws.specs.Settings.{Admitted}
 use Rattle.plan.proofs.TaskTimes.{Times, times_at}
 use Rattle.laws.proofs.Sizes.{moment_sized}
@@ -26,11 +26,6 @@ module _ (c : Setting) (a : Admitted c) (i : ℕ) (known : i < length c.tasks) w
   pub delay_entered : (t : ℕ) → get_or (released c t (moment c t)).delays i 0 ≡ cond (due t (task_of c i) (next_of (moment c t) i)) 0 (get_or (moment c t).delays i 0)
   delay_entered t =
       each_at 0 (length c.tasks) (λ j d. cond (due t (task_of c j) (next_of (moment c t) j)) 0 d) (moment c t).delays i 0 known (omega (arith, a.few, (moment_sized c t).delays))
-
-  -- serving changes no number
-  pub next_after : (t : ℕ) → next_of (moment c (suc t)) i ≡ counted t (task_of c i) (next_of (moment c t) i)
-  unfolding moment tick
-  next_after t = next_counted t
 
   pub start_next : next_of (moment c 0) i ≡ 0
   unfolding moment

@@ -7,7 +7,7 @@ use Rattle.plan.specs.Checks.{first_wrong}
 use Rattle.plan.specs.Layout.{body, count_of, reload_of, rows_of}
 use Rattle.plan.proofs.FirstWrong.{passed_before, wrong_before}
 
-answered : (bs : List ℕ) (o : Option Fault) → first_wrong (checks bs) ≡ o → admission bs ≡ unless o (content_in bs)
+pub answered : (bs : List ℕ) (o : Option Fault) → first_wrong (checks bs) ≡ o → admission bs ≡ unless o (content_in bs)
 answered bs o e = ap (λ (z : Option Fault). unless z (content_in bs)) e
 
 -- A head that passed, with the count n and the bytes b after it.

@@ -1,7 +1,6 @@
 -- An advance, tick by tick.
-use Rattle.std.proofs.Common.{◌≡◌, ℕ, ◌+◌, ◌-◌, ◌<◌, Bool, true, false, eqb, leb, List, ◌++◌, length, Option, refl, sym, ap, ◌∙◌, arith}
+use Rattle.std.proofs.Common.{◌≡◌, ℕ, ◌+◌, ◌-◌, ◌<◌, Bool, false, eqb, leb, List, ◌++◌, length, Option, refl, sym, ap, ◌∙◌, arith}
 use Rattle.std.proofs.Math.Numerals.{add-one}
-use Rattle.std.proofs.lemmas.Bool.{eq-eqb}
 use Rattle.std.proofs.lemmas.Bool.Decides.{nat_tests}
 use Rattle.std.proofs.lemmas.List.{append_assoc, append-nil, length-append}
 use Rattle.delay.specs.declared.model.DelayModel as models
@@ -21,10 +20,6 @@ use Rattle.standing.specs.declared.standings.Standing.{Standing}
 
 pub shows : {P M : Type 0} {p : policies.Ghosts P} {m : models.Ghosts M} (r : Run P M p m) → shown r ≡ shown_at (setting_in r) (clock_in r.follower)
 shows r = λ i. record { clock = clock_in r.follower; standing = r.decided i; summaries = r.counted i }
-
-pub shows_at : {P M : Type 0} {p : policies.Ghosts P} {m : models.Ghosts M} (r : Run P M p m) (c : Setting) (t : ℕ)
-    → setting_in r ≡ c → clock_in r.follower ≡ t → shown r ≡ shown_at c t
-shows_at r c t same here = shows r ∙ λ i. shown_at (same i) (here i)
 
 -- ---- the rows of one tick more
 
@@ -57,11 +52,6 @@ pub stop_now : (c : Setting) (t u : ℕ) (q : Asking) (s : Standing) (jobs switc
     → s ≡ standing_at c (t + u) → u < q.ticks → jobs ≡ leb q.job_rows (length (written (job_in c) t u)) → switches ≡ leb q.switch_rows (length (written (switch_in c) t u))
     → stop_of (is_open s) false jobs switches ≡ stop_after c t q u
 stop_now c t u q s jobs switches stood l j k = λ i. stop_of (is_open (stood i)) (sym (below u q.ticks l) i) (j i) (k i)
-
-pub stop_last : (c : Setting) (t u : ℕ) (q : Asking) (s : Standing) → s ≡ standing_at c (t + u) → u ≡ q.ticks
-    → stop_after c t q u ≡ stop_of (is_open s) true true true
-stop_last c t u q s stood e =
-    sym (λ i. stop_of (is_open (stood i)) (sym (eq-eqb u q.ticks e) i) (leb q.job_rows (length (written (job_in c) t u))) (leb q.switch_rows (length (written (switch_in c) t u))))
 
 pub stood_at : {P M : Type 0} {p : policies.Ghosts P} {m : models.Ghosts M} (r : Run P M p m) (c : Setting) (t : ℕ)
     → setting_in r ≡ c → clock_in r.follower ≡ t → r.standing ≡ standing_at c t

@@ -1,8 +1,8 @@
 -- A watch that has taken the samples before an instant tells what the comparison at that instant shows.
 use Rattle.std.proofs.Common.{◌≡◌, ℕ, suc, ◌+◌, ◌*◌, ◌<◌, ◌≤◌, max, Bool, true, false, cond, ◌&&◌, eqb, leb, ltb, Some, None, refl, sym, ap, ◌∙◌, ⊎_elim, arith}
-use Rattle.std.proofs.Math.Numerals.{add-one}
 use Rattle.std.proofs.Math.Nat.{le-mul_of_pos_right, mul-le-mul_right}
 use Rattle.std.proofs.lemmas.Bool.{and_from, and_parts, both_ways, cases_Bool, cases_lt, eq-eqb, eqb-true, le-leb, leb-true, lt-ltb}
+use Rattle.cycle.proofs.Compared.{compared_more}
 use Rattle.cycle.specs.Comparisons.{compared_with, next_compared}
 use Rattle.dispatch.specs.Urgencies.{first_none, first_some}
 use Rattle.laws.proofs.Plans.{hyperperiod_positive}
@@ -12,7 +12,7 @@ use Rattle.run.specs.declared.watch.Watch.{Watch}
 use Rattle.schedule.specs.Schedules.{from, sample, state_at}
 use Rattle.schedule.specs.StateLaws.{same_state}
 use Rattle.schedule.specs.States.{Setting}
-use Rattle.standing.specs.Standings.{compared, sample_at}
+use Rattle.standing.specs.Standings.{compared, sample_at, taken}
 use Rattle.standing.specs.declared.events.Event.TheVariants.{Nothing, Repeats}
 use Rattle.standing.proofs.Comparing.{taken_once}
 
@@ -21,8 +21,7 @@ unfolding compared_with
 compared_first n e = ap compared_with e
 
 compared_on : (n p : ℕ) → p ≡ compared_with n → next_compared n p ≡ compared_with (n + 1)
-unfolding compared_with
-compared_on n p e = ap (next_compared n) e ∙ ap compared_with (sym (add-one n))
+compared_on n p e = ap (next_compared n) e ∙ sym (compared_more n)
 
 -- the sample that is kept next is this one, or the one that is kept
 kept_on : {S : Type 0} (f : ℕ → S) (n p : ℕ) (s k : S) → s ≡ f n → (n ≡ 0 → p ≡ 0) → (1 ≤ n → k ≡ f p) → cond (eqb (next_compared n p) n) s k ≡ f (next_compared n p)
@@ -37,18 +36,15 @@ kept_on {S} f n p s k here none kept = go (eqb n (max 1 (2 * p))) refl
         at false other = kept (⊎_elim (λ l. absurd (both_ways _ other (eq-eqb p n (let z : n ≡ 0 = omega (arith, l) in none z ∙ sym z)))) (λ l. l) (cases_lt n 1))
 
 module _ (c : Setting) (a : Admitted c) (t : ℕ) where
-  abbrev taken : ℕ → Bool
-  taken k = leb 1 k && eqb t (from c + k * c.hyperperiod)
-
   sample_none : ((k : ℕ) → 1 ≤ k → t ≡ from c + k * c.hyperperiod → ⊥) → sample_at c t ≡ None
-  sample_none h = first_none (suc t) taken (λ k l. ⊎_elim (λ e. let p = and_parts (leb 1 k) _ e in absurd (h k (leb-true 1 k p.0) (eqb-true t _ p.1))) (λ e. e) (cases_Bool (taken k)))
+  sample_none h = first_none (suc t) (taken c t) (λ k l. ⊎_elim (λ e. let p = and_parts (leb 1 k) _ e in absurd (h k (leb-true 1 k p.0) (eqb-true t _ p.1))) (λ e. e) (cases_Bool (taken c t k)))
 
   sample_some : (n : ℕ) → 1 ≤ n → t ≡ from c + n * c.hyperperiod → sample_at c t ≡ Some n
   sample_some n h e =
       let long : n ≤ n * c.hyperperiod = le-mul_of_pos_right n (hyperperiod_positive c a) in
-      first_some (suc t) n taken (omega (arith, e, long)) (and_from _ _ (le-leb 1 n h) (eq-eqb t _ e)) (λ k l. ⊎_elim (λ y. absurd (earlier k l y)) (λ y. y) (cases_Bool (taken k)))
+      first_some (suc t) n (taken c t) (omega (arith, e, long)) (and_from _ _ (le-leb 1 n h) (eq-eqb t _ e)) (λ k l. ⊎_elim (λ y. absurd (earlier k l y)) (λ y. y) (cases_Bool (taken c t k)))
     where
-      earlier : (k : ℕ) → k < n → taken k ≡ true → ⊥
+      earlier : (k : ℕ) → k < n → taken c t k ≡ true → ⊥
       earlier k l y = omega (arith, l, taken_once (from c) c.hyperperiod k n (hyperperiod_positive c a) (sym (eqb-true t _ (and_parts (leb 1 k) _ y).1) ∙ e))
 
   -- between two samples
@@ -69,16 +65,6 @@ module _ (c : Setting) (a : Admitted c) (t : ℕ) where
                 let one : k + 1 ≤ w.number = omega (arith, m) in
                 let far : (k + 1) * c.hyperperiod ≤ w.number * c.hyperperiod = mul-le-mul_right c.hyperperiod one in
                 omega (arith, far, h.next, e, h.recent (omega (arith, m)))
-
-    pub still_watching : Watching c (t + 1) w
-    still_watching = record {
-      period = h.period;
-      next = h.next;
-      ahead = omega (arith, early);
-      recent = λ l. omega (arith, h.recent l);
-      earlier = h.earlier;
-      kept = h.kept;
-    }
 
   -- at a sample
   module _ (w : Watch) (h : Watching c t w) (due : t ≡ w.next) where

@@ -27,12 +27,3 @@ open_before c t u l h = ⊎_elim (λ e. e) (λ e. absurd (both_ways _ (still e) 
     still e =
         let later : t ≡ u + (t - u) = omega arith in
         ap (λ (v : ℕ). is_open (standing_at c v)) later ∙ (ap is_open (closed_stays c u (t - u) e) ∙ e)
-
--- nothing but Open is open
-pub only_open : (s : Standing) → is_open s ≡ true → s ≡ Open
-only_open Open h = refl
-only_open (Misses u i m) h = absurd (both_ways _ refl h)
-only_open (Holds u k p) h = absurd (both_ways _ refl h)
-
-pub was_open : (c : Setting) (t u : ℕ) → u ≤ t → is_open (standing_at c t) ≡ true → standing_at c u ≡ Open
-was_open c t u l h = only_open (standing_at c u) (open_before c t u l h)

@@ -1,4 +1,5 @@
 -- How the schedule stands at an instant. Assumes nothing.
+--     taken c t k               sample k, from 1 on, is taken at instant t
 --     sample_at c t             the number of the sample that is taken at instant t, from 1 on, or none
 --     repeats c k               sample k equals the sample that it is compared with
 --     compared c o              what the comparison of the sample o shows
@@ -19,8 +20,11 @@ use Rattle.standing.specs.declared.standings.Standing.{Standing}
 use Rattle.standing.specs.declared.standings.Standing.TheVariants.{Open, Misses, Holds}
 
 -- Sample k is taken at the greatest offset and k hyperperiods. Sample 0 is compared with none.
+abbrev pub taken : Setting → ℕ → ℕ → Bool
+taken c t k = nat_le 1 k && t == from c + k * c.hyperperiod
+
 abbrev pub sample_at : Setting → ℕ → Option ℕ
-sample_at c t = first_such (suc t) (λ k. nat_le 1 k && t == from c + k * c.hyperperiod)
+sample_at c t = first_such (suc t) (taken c t)
 
 -- By slots, marks and the running task.
 abbrev pub repeats : Setting → ℕ → Bool

@@ -5,10 +5,10 @@ use Rattle.bits.specs.Bits.{bit, spelled}
 use Rattle.fault.specs.declared.Cause.TheVariants.{EndsEarly, ExtraBytes}
 use Rattle.fault.specs.declared.Fault.{Fault}
 use Rattle.fault.specs.declared.Layer.TheVariants.{Bytes}
-use Rattle.plan.specs.Admission.{admission, checks, content_in, fault, unless}
+use Rattle.plan.specs.Admission.{admission, fault}
 use Rattle.plan.specs.Blocks.{every_below}
-use Rattle.plan.specs.Checks.{first_wrong}
 use Rattle.plan.specs.Periods.{common, common_up_to, hyperperiod_limit}
+use Rattle.plan.proofs.AdmissionLaws.{answered}
 use Rattle.plan.proofs.Commons.{common_found}
 use Rattle.worked.specs.WorkedPlans.{bytes_s, plan_s}
 
@@ -19,9 +19,6 @@ found ps h = common_found hyperperiod_limit 12 ps (omega arith) (omega arith) h
 -- the check of the common period, passed
 passed : (found : Bool) (f : Fault) (o : Option Fault) → found ≡ true → cond (not found) (Some f) o ≡ o
 passed b f o h = ap (λ (z : Bool). cond (not z) (Some f) o) h
-
-answered : (bs : List ℕ) (o : Option Fault) → first_wrong (checks bs) ≡ o → admission bs ≡ unless o (content_in bs)
-answered bs o h = ap (λ (z : Option Fault). unless z (content_in bs)) h
 
 pub s_admitted : admission bytes_s ≡ Ok (plan_s 0)
 unfolding bit spelled every_below

@@ -14,12 +14,12 @@ use Rattle.worked.proofs.Admissions.{cut_refused, empty_refused, longer_refused,
 use Rattle.worked.proofs.Computing.{schedules}
 use Rattle.schedule.specs.StateLaws.{equal_same, same_state}
 use Rattle.worked.proofs.Equalities.{marks_eq, other_number, other_task, same_mark, same_marks, same_slots, same_summaries, same_task, slots_eq, summaries_eq, task_eq}
-use Rattle.worked.proofs.Lateness.{first_late, late_first, on_time_to, quiet_before}
+use Rattle.worked.proofs.Lateness.{first_late, first_late_test, on_time_to, quiet_before}
 use Rattle.worked.proofs.Periods.{is_lcm, lcm_among}
 
 -- part by part as in `Right`; admissions have no test, since they are not found by computing alone
 abbrev test : Case → Bool
-test (misses c t i m ys) = lcm_among c.hyperperiod (periods c.tasks) && (late_first c t i m && summaries_eq (summaries c t) ys)
+test (misses c t i m ys) = lcm_among c.hyperperiod (periods c.tasks) && (first_late_test c t i m && summaries_eq (summaries c t) ys)
 test (holds c t k i ys) =
     lcm_among c.hyperperiod (periods c.tasks)
     && (t == from c + k * c.hyperperiod && (same_state (sample c k) (sample c i) && (quiet_before c (suc t) && summaries_eq (summaries c t) ys)))
@@ -39,7 +39,7 @@ test (refused bs cause row bit) = false
 told : (case : Case) → test case ≡ true → Right case
 told (misses c t i m ys) h =
     let x = and_parts (lcm_among c.hyperperiod (periods c.tasks)) _ h in
-    let y = and_parts (late_first c t i m) _ x.1 in
+    let y = and_parts (first_late_test c t i m) _ x.1 in
     record {
       hyperperiod = is_lcm _ _ x.0;
       first = first_late c t i m y.0;

@@ -37,10 +37,11 @@ on_time_before c t u h l = on_time c u (every_at t u (quiet c) h l)
 pub on_time_to : (c : Setting) (t : ℕ) → quiet_before c (suc t) ≡ true → OnTimeTo c t
 on_time_to c t h u l = on_time_before c (suc t) u h (omega arith)
 
-abbrev pub late_first : Setting → ℕ → ℕ → ℕ → Bool
-late_first c t i m = quiet_before c t && (late c t i && (m == live_job (next_of (moment c t) i) && every_below i (λ j. not (late c t j))))
+-- job m of task i is late first, at instant t
+abbrev pub first_late_test : Setting → ℕ → ℕ → ℕ → Bool
+first_late_test c t i m = quiet_before c t && (late c t i && (m == live_job (next_of (moment c t) i) && every_below i (λ j. not (late c t j))))
 
-pub first_late : (c : Setting) (t i m : ℕ) → late_first c t i m ≡ true → FirstLate c t i m
+pub first_late : (c : Setting) (t i m : ℕ) → first_late_test c t i m ≡ true → FirstLate c t i m
 first_late c t i m h =
     let before = and_parts (quiet_before c t) _ h in
     let here = and_parts (late c t i) _ before.1 in
