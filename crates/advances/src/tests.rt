@@ -12,6 +12,13 @@ use row_log::Log;
 use run::{Advance, Run, Stop};
 use schedule::{JobRow, Summary, SwitchRow};
 use standing::Standing;
+use std::fmt::Debug;
+use std::process::Abort;
+
+/// Fails the test unless the two are the same. Proved once, where the macro would be proved at each place.
+fn same<T: PartialEq + Debug + Drop>(rt: &impl Abort, told: T, wanted: T) {
+    assert_eq!(rt; told, wanted);
+}
 
 /// Plan S.
 const S: [u8; 60] = [

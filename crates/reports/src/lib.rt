@@ -1,4 +1,4 @@
-//! Trials of whole reports, from the bytes of an input to the text.
+//! Trials of the call from an input to its report.
 
 #![tactic(auto)]
 

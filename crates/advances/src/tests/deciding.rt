@@ -1,6 +1,6 @@
 //! How runs are decided, tick by tick and in one advance, and under rules of a maker's own.
 
-use super::{HOLDS_13_1_0, MISSES_12_1_0, ONE, S, did, go_on, summary};
+use super::{HOLDS_13_1_0, MISSES_12_1_0, ONE, S, did, go_on, same, summary};
 use customer::{Favourite, FlatCost};
 use delay::{DelayModel, MarkModel, NoDelay, UsefulBlocks};
 use dispatch::{EarliestDeadline, FixedPriority, NonPreemptive, Policy};
@@ -34,24 +34,26 @@ fn the_first_comparison_may_decide_at_instant_1(rt: HostRuntime) -> Result<(), F
         sample: 1,
         earlier: 0,
     };
-    let (standing, first, second) = decided(&plan, EarliestDeadline, NoDelay::new(&plan));
-    assert_eq!(rt; standing, holds_1_1_0);
-    assert_eq!(rt; first, Some(summary((1, 1, 0))));
-    assert_eq!(rt; second, None);
+    same(
+        &rt,
+        decided(&plan, EarliestDeadline, NoDelay::new(&plan)),
+        (holds_1_1_0, Some(summary((1, 1, 0))), None),
+    );
     Ok(())
 }
 
 #[test]
 fn a_late_job_decides(rt: HostRuntime) -> Result<(), Fail> {
     let plan = admit(&S)?;
-    let (standing, first, second) = decided(
-        &plan,
-        FixedPriority::new(&plan),
-        UsefulBlocks::new(&plan),
+    same(
+        &rt,
+        decided(&plan, FixedPriority::new(&plan), UsefulBlocks::new(&plan)),
+        (
+            MISSES_12_1_0,
+            Some(summary((2, 2, 0))),
+            Some(summary((0, 0, 4))),
+        ),
     );
-    assert_eq!(rt; standing, MISSES_12_1_0);
-    assert_eq!(rt; first, Some(summary((2, 2, 0))));
-    assert_eq!(rt; second, Some(summary((0, 0, 4))));
     Ok(())
 }
 
@@ -69,16 +71,18 @@ fn a_run_may_go_tick_by_tick(rt: HostRuntime) -> Result<(), Fail> {
         } else {
             Stop::Closed
         };
-        assert_eq!(rt;
+        same(
+            &rt,
             go_on(&mut run, 1, &mut jobs, &mut switches),
-            (did(1, stop), clock)
+            (did(1, stop), clock),
         );
-        assert_eq!(rt; run.standing().is_open(), clock < 13);
+        same(&rt, run.standing().is_open(), clock < 13);
     }
-    assert_eq!(rt; run.standing(), HOLDS_13_1_0);
-    assert_eq!(rt;
+    same(&rt, run.standing(), HOLDS_13_1_0);
+    same(
+        &rt,
         run.summaries(),
-        [(2, 2, 0), (1, 7, 0)].map(summary).as_slice()
+        [(2, 2, 0), (1, 7, 0)].map(summary).as_slice(),
     );
     Ok(())
 }
@@ -95,14 +99,24 @@ fn decided_by_own_rules(plan: &Plan, cost: u16) -> (Standing, Option<Summary>, O
 #[test]
 fn rules_of_a_makers_own_decide(rt: HostRuntime) -> Result<(), Fail> {
     let plan = admit(&S)?;
-    let (standing, first, second) = decided_by_own_rules(&plan, 1);
-    assert_eq!(rt; standing, HOLDS_13_1_0);
-    assert_eq!(rt; first, Some(summary((2, 2, 0))));
-    assert_eq!(rt; second, Some(summary((1, 11, 2))));
-    let (standing, first, second) = decided_by_own_rules(&plan, 2);
-    assert_eq!(rt; standing, MISSES_12_1_0);
-    assert_eq!(rt; first, Some(summary((2, 2, 0))));
-    assert_eq!(rt; second, Some(summary((0, 0, 4))));
+    same(
+        &rt,
+        decided_by_own_rules(&plan, 1),
+        (
+            HOLDS_13_1_0,
+            Some(summary((2, 2, 0))),
+            Some(summary((1, 11, 2))),
+        ),
+    );
+    same(
+        &rt,
+        decided_by_own_rules(&plan, 2),
+        (
+            MISSES_12_1_0,
+            Some(summary((2, 2, 0))),
+            Some(summary((0, 0, 4))),
+        ),
+    );
     Ok(())
 }
 
@@ -115,9 +129,14 @@ fn a_layer_stands_over_a_rule_of_a_makers_own(rt: HostRuntime) -> Result<(), Fai
             others: EarliestDeadline,
         },
     };
-    let (standing, first, second) = decided(&plan, policy, MarkModel::with(FlatCost::new(64)));
-    assert_eq!(rt; standing, HOLDS_13_1_0);
-    assert_eq!(rt; first, Some(summary((2, 6, 0))));
-    assert_eq!(rt; second, Some(summary((1, 5, 0))));
+    same(
+        &rt,
+        decided(&plan, policy, MarkModel::with(FlatCost::new(64))),
+        (
+            HOLDS_13_1_0,
+            Some(summary((2, 6, 0))),
+            Some(summary((1, 5, 0))),
+        ),
+    );
     Ok(())
 }

@@ -1,6 +1,6 @@
 //! What an advance refuses, and that a refusal changes nothing.
 
-use super::{MISSES_12_1_0, S, did, go_on, has_rows, job_row, refusal};
+use super::{MISSES_12_1_0, S, did, go_on, has_rows, job_row, refusal, same};
 use delay::UsefulBlocks;
 use dispatch::FixedPriority;
 use fault::Cause;
@@ -23,13 +23,14 @@ fn an_advance_by_too_many_ticks_is_refused(rt: HostRuntime) -> Result<(), Fail> 
         (u64::MAX, Err(refusal(Cause::AdvanceTooLong))),
         (1_000_000_000, did(0, Stop::JobLogFull)),
     ] {
-        assert_eq!(rt;
+        same(
+            &rt,
             go_on(&mut run, ticks, &mut jobs, &mut switches),
-            (answer, 0)
+            (answer, 0),
         );
         assert!(rt; has_rows(&jobs, &[]) && has_rows(&switches, &[]));
     }
-    assert_eq!(rt; run.standing(), Standing::Open);
+    same(&rt, run.standing(), Standing::Open);
     Ok(())
 }
 
@@ -47,12 +48,13 @@ fn a_run_with_a_late_job_is_closed(rt: HostRuntime) -> Result<(), Fail> {
         (1_000_000_000, Err(refusal(Cause::RunClosed))),
         (1_000_000_001, Err(refusal(Cause::AdvanceTooLong))),
     ] {
-        assert_eq!(rt;
+        same(
+            &rt,
             go_on(&mut run, ticks, &mut jobs, &mut switches),
-            (answer, 12)
+            (answer, 12),
         );
         assert!(rt; has_rows(&jobs, &[(0, 0, 1, 3, 0), (0, 1, 7, 9, 0)].map(job_row)));
     }
-    assert_eq!(rt; run.standing(), MISSES_12_1_0);
+    same(&rt, run.standing(), MISSES_12_1_0);
     Ok(())
 }

@@ -1,6 +1,6 @@
 //! What plan S under fixed priority with loaded blocks writes down, and what is told of its tasks.
 
-use super::{S, did, go_on, has_rows, job_row, refusal, summary, switch_row};
+use super::{S, did, go_on, has_rows, job_row, refusal, same, summary, switch_row};
 use delay::LoadedBlocks;
 use dispatch::FixedPriority;
 use fault::Cause;
@@ -32,7 +32,7 @@ fn a_run_writes_down_its_switches_and_jobs(rt: HostRuntime) -> Result<(), Fail> 
     let mut jobs = Log::over(&mut job_rows);
     let mut switches = Log::over(&mut switch_rows);
     let whole = go_on(&mut run, 1_000_000_000, &mut jobs, &mut switches);
-    assert_eq!(rt; whole, (did(13, Stop::Closed), 13));
+    same(&rt, whole, (did(13, Stop::Closed), 13));
     assert!(rt; has_rows(&switches, &SWITCHES.map(switch_row)));
     assert!(rt; has_rows(&jobs, &JOBS.map(job_row)));
     Ok(())
@@ -48,11 +48,11 @@ fn clearing_one_log_leaves_the_other(rt: HostRuntime) -> Result<(), Fail> {
     let mut switches = Log::over(&mut switch_rows);
     let before = go_on(&mut run, 13, &mut jobs, &mut switches);
     switches.clear();
-    assert_eq!(rt; before, (did(8, Stop::SwitchLogFull), 8));
+    same(&rt, before, (did(8, Stop::SwitchLogFull), 8));
     assert!(rt; has_rows(&switches, &[]));
     assert!(rt; has_rows(&jobs, &[(0, 0, 1, 3, 0)].map(job_row)));
     let after = go_on(&mut run, 5, &mut jobs, &mut switches);
-    assert_eq!(rt; after, (did(5, Stop::Closed), 13));
+    same(&rt, after, (did(5, Stop::Closed), 13));
     assert!(rt;
         has_rows(&switches, &[(9, 1, 0, 2), (12, 1, 1, 0)].map(switch_row)),
         "from row 0 on again"
@@ -74,12 +74,24 @@ fn summaries_tell_of_finished_jobs_and_of_all_delay(rt: HostRuntime) -> Result<(
         (10, 10, (2, 2, 0), (0, 0, 3)),
         (3, 13, (2, 2, 0), (1, 12, 3)),
     ] {
-        assert_eq!(rt; go_on(&mut run, ticks, &mut jobs, &mut switches).1, clock);
-        assert_eq!(rt; run.summaries(), [first, second].map(summary).as_slice());
-        assert_eq!(rt; run.summary(0), Ok(summary(first)));
-        assert_eq!(rt; run.summary(1), Ok(summary(second)));
+        same(
+            &rt,
+            go_on(&mut run, ticks, &mut jobs, &mut switches).1,
+            clock,
+        );
+        same(
+            &rt,
+            run.summaries(),
+            [first, second].map(summary).as_slice(),
+        );
+        same(&rt, run.summary(0), Ok(summary(first)));
+        same(&rt, run.summary(1), Ok(summary(second)));
     }
-    assert_eq!(rt; run.summary(2), Err(refusal(Cause::NoSuchEntry)));
-    assert_eq!(rt; run.summary(usize::MAX), Err(refusal(Cause::NoSuchEntry)));
+    same(&rt, run.summary(2), Err(refusal(Cause::NoSuchEntry)));
+    same(
+        &rt,
+        run.summary(usize::MAX),
+        Err(refusal(Cause::NoSuchEntry)),
+    );
     Ok(())
 }

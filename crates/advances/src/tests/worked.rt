@@ -1,6 +1,6 @@
 //! The worked advances of plan S under fixed priority with loaded blocks, in their order.
 
-use super::{HOLDS_13_1_0, S, did, go_on, has_rows, job_row, refusal};
+use super::{HOLDS_13_1_0, S, did, go_on, has_rows, job_row, refusal, same};
 use delay::LoadedBlocks;
 use dispatch::FixedPriority;
 use fault::Cause;
@@ -19,19 +19,22 @@ type Worked = Run<FixedPriority, LoadedBlocks>;
 fn without_room(rt: &impl Abort, run: &mut Worked) {
     let mut jobs = Log::over(&mut []);
     let mut switches = Log::over(&mut []);
-    assert_eq!(rt;
+    same(
+        rt,
         go_on(run, 0, &mut jobs, &mut switches),
-        (did(0, Stop::CountReached), 0)
+        (did(0, Stop::CountReached), 0),
     );
-    assert_eq!(rt;
+    same(
+        rt,
         go_on(run, 1, &mut jobs, &mut switches),
-        (did(0, Stop::JobLogFull), 0)
+        (did(0, Stop::JobLogFull), 0),
     );
     let mut job_rows = [JobRow::default(); 1];
     let mut jobs = Log::over(&mut job_rows);
-    assert_eq!(rt;
+    same(
+        rt,
         go_on(run, 1, &mut jobs, &mut switches),
-        (did(0, Stop::SwitchLogFull), 0)
+        (did(0, Stop::SwitchLogFull), 0),
     );
     assert!(rt; has_rows(&jobs, &[]));
 }
@@ -40,21 +43,24 @@ fn without_room(rt: &impl Abort, run: &mut Worked) {
 fn to_instant_9(rt: &impl Abort, run: &mut Worked, jobs: &mut Log<'_, JobRow>) {
     let mut switch_rows = [SwitchRow::default(); 9];
     let mut switches = Log::over(&mut switch_rows);
-    assert_eq!(rt;
+    same(
+        rt,
         go_on(run, 100, jobs, &mut switches),
-        (did(3, Stop::JobLogFull), 3)
+        (did(3, Stop::JobLogFull), 3),
     );
     assert!(rt; has_rows(jobs, &[job_row((0, 0, 1, 3, 0))]));
     assert!(rt; jobs.row(1) == Err(refusal(Cause::NoSuchEntry)));
     jobs.clear();
-    assert_eq!(rt;
+    same(
+        rt,
         go_on(run, 6, jobs, &mut switches),
-        (did(6, Stop::CountReached), 9)
+        (did(6, Stop::CountReached), 9),
     );
     assert!(rt; has_rows(jobs, &[job_row((0, 1, 7, 9, 0))]));
-    assert_eq!(rt;
+    same(
+        rt,
         go_on(run, 1, jobs, &mut switches),
-        (did(0, Stop::JobLogFull), 9)
+        (did(0, Stop::JobLogFull), 9),
     );
     assert!(rt; has_rows(jobs, &[job_row((0, 1, 7, 9, 0))]));
 }
@@ -64,22 +70,25 @@ fn to_instant_13(rt: &impl Abort, run: &mut Worked, jobs: &mut Log<'_, JobRow>) 
     let mut switch_rows = [SwitchRow::default(); 9];
     jobs.clear();
     let mut switches = Log::over(&mut switch_rows[0..1]);
-    assert_eq!(rt;
+    same(
+        rt,
         go_on(run, 100, jobs, &mut switches),
-        (did(1, Stop::SwitchLogFull), 10)
+        (did(1, Stop::SwitchLogFull), 10),
     );
     assert!(rt; has_rows(jobs, &[]));
     let mut switches = Log::over(&mut switch_rows);
-    assert_eq!(rt;
+    same(
+        rt,
         go_on(run, 100, jobs, &mut switches),
-        (did(2, Stop::JobLogFull), 12)
+        (did(2, Stop::JobLogFull), 12),
     );
     assert!(rt; has_rows(jobs, &[job_row((1, 0, 0, 12, 3))]));
     jobs.clear();
     let mut switches = Log::over(&mut switch_rows[0..1]);
-    assert_eq!(rt;
+    same(
+        rt,
         go_on(run, 100, jobs, &mut switches),
-        (did(1, Stop::Closed), 13)
+        (did(1, Stop::Closed), 13),
     );
     assert!(rt; has_rows(jobs, &[]));
 }
@@ -88,14 +97,15 @@ fn to_instant_13(rt: &impl Abort, run: &mut Worked, jobs: &mut Log<'_, JobRow>) 
 fn closed(rt: &impl Abort, run: &mut Worked, jobs: &mut Log<'_, JobRow>) {
     let mut switch_rows = [SwitchRow::default(); 9];
     let mut switches = Log::over(&mut switch_rows);
-    assert_eq!(rt; run.standing(), HOLDS_13_1_0);
-    assert_eq!(rt;
+    same(rt, run.standing(), HOLDS_13_1_0);
+    same(
+        rt,
         go_on(run, 0, jobs, &mut switches),
-        (Err(refusal(Cause::RunClosed)), 13)
+        (Err(refusal(Cause::RunClosed)), 13),
     );
     let too_long = go_on(run, 1_000_000_001, jobs, &mut switches);
-    assert_eq!(rt; too_long, (Err(refusal(Cause::AdvanceTooLong)), 13));
-    assert_eq!(rt; run.standing(), HOLDS_13_1_0);
+    same(rt, too_long, (Err(refusal(Cause::AdvanceTooLong)), 13));
+    same(rt, run.standing(), HOLDS_13_1_0);
     assert!(rt; has_rows(jobs, &[]) && has_rows(&switches, &[]));
 }
 
@@ -103,8 +113,8 @@ fn closed(rt: &impl Abort, run: &mut Worked, jobs: &mut Log<'_, JobRow>) {
 fn worked_advances(rt: HostRuntime) -> Result<(), Fail> {
     let plan = admit(&S)?;
     let mut run = Run::open(&plan, FixedPriority::new(&plan), LoadedBlocks::new(&plan));
-    assert_eq!(rt; run.standing(), Standing::Open);
-    assert_eq!(rt; run.clock(), 0);
+    same(&rt, run.standing(), Standing::Open);
+    same(&rt, run.clock(), 0);
     without_room(&rt, &mut run);
     let mut job_rows = [JobRow::default(); 1];
     let mut jobs = Log::over(&mut job_rows);
