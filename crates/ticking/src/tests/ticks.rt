@@ -1,19 +1,12 @@
 //! Ticks of plan S under several orders, against tables that were worked out by hand.
 
+use super::{S, has_rows, job_row, same, switch_row};
 use delay::{DelayModel, LoadedBlocks, UsefulBlocks};
 use dispatch::{EarliestDeadline, FixedPriority, NonPreemptive, Policy};
 use plan::{Plan, admit};
 use row_log::Log;
 use schedule::{JobRow, Schedule, SwitchRow};
 use std::test::Fail;
-
-/// Plan S.
-const S: [u8; 60] = [
-    0x11, 0x04, 0x00, 0x00, 0x10, 0x00, 0x06, 0x00, 0x00, 0x60, 0x00, 0x02, 0x09, 0x00, 0x00, 0x00,
-    0x00, 0x00, 0x00, 0x00, 0x00, 0x00, 0x06, 0x00, 0x00, 0x00, 0x00, 0x00, 0x00, 0x00, 0x00, 0x00,
-    0x00, 0x00, 0x00, 0x0c, 0x00, 0x00, 0xc0, 0x00, 0x05, 0x05, 0x00, 0x06, 0x00, 0x00, 0x00, 0x00,
-    0x00, 0x00, 0x00, 0x06, 0x00, 0x00, 0x00, 0x00, 0x00, 0x00, 0x00, 0x00,
-];
 
 /// Does so many ticks and writes their rows into the logs.
 fn do_ticks<P: Policy, M: DelayModel>(
@@ -34,33 +27,6 @@ fn do_ticks<P: Policy, M: DelayModel>(
             }
         }
     }
-}
-
-/// Instant, task, job, delay.
-fn switch_row((instant, task, job, delay): (u64, usize, u64, u16)) -> SwitchRow {
-    SwitchRow {
-        instant,
-        task,
-        job,
-        delay,
-    }
-}
-
-/// Task, job, release, finish, delay.
-fn job_row((task, job, release, finish, delay): (usize, u64, u64, u64, u64)) -> JobRow {
-    JobRow {
-        task,
-        job,
-        release,
-        finish,
-        delay,
-    }
-}
-
-/// Whether the log has just these rows.
-fn has_rows<T: Copy + PartialEq>(log: &Log<T>, rows: &[T]) -> bool {
-    let same = |(number, row): (usize, &T)| log.row(number).is_ok_and(|x| x == *row);
-    log.len() == rows.len() && rows.iter().enumerate().all(same)
 }
 
 /// Whether so many ticks of a plan write just these rows.
@@ -103,25 +69,6 @@ fn useful_blocks_under_fixed_priority_pay_twice(rt: HostRuntime) -> Result<(), F
     .map(switch_row);
     let jobs = [(0, 0, 1, 3, 0), (0, 1, 7, 9, 0)].map(job_row);
     assert!(rt; rows_are(&plan, &policy, &mut model, 12, &switches, &jobs));
-    Ok(())
-}
-
-#[test]
-fn loaded_blocks_under_fixed_priority_pay_for_what_was_loaded(rt: HostRuntime) -> Result<(), Fail> {
-    let plan = admit(&S)?;
-    let policy = FixedPriority::new(&plan);
-    let mut model = LoadedBlocks::new(&plan);
-    let switches = [
-        (0, 1, 0, 0),
-        (1, 0, 0, 0),
-        (3, 1, 0, 1),
-        (7, 0, 1, 0),
-        (9, 1, 0, 2),
-        (12, 1, 1, 0),
-    ]
-    .map(switch_row);
-    let jobs = [(0, 0, 1, 3, 0), (0, 1, 7, 9, 0), (1, 0, 0, 12, 3)].map(job_row);
-    assert!(rt; rows_are(&plan, &policy, &mut model, 13, &switches, &jobs));
     Ok(())
 }
 
@@ -178,16 +125,20 @@ fn loaded_blocks_under_fixed_priority_state_by_state(rt: HostRuntime) -> Result<
     let policy = FixedPriority::new(&plan);
     let mut model = LoadedBlocks::new(&plan);
     let mut schedule = Schedule::new(&plan);
-    for (running, left_0, owed_0, left_1, owed_1, credit) in STATES.iter() {
+    for state in STATES {
         let _ = schedule.tick(&policy, &mut model);
-        assert_eq!(rt; schedule.running(), *running);
-        assert_eq!(rt; schedule.slot(0).left, *left_0);
-        assert_eq!(rt; schedule.slot(0).owed, *owed_0);
-        assert_eq!(rt; schedule.slot(1).left, *left_1);
-        assert_eq!(rt; schedule.slot(1).owed, *owed_1);
-        assert_eq!(rt; model.mark(1).credit, *credit);
+        let [first, second] = [0, 1].map(|task| schedule.slot(task));
+        let told = (
+            schedule.running(),
+            first.left,
+            first.owed,
+            second.left,
+            second.owed,
+            model.mark(1).credit,
+        );
+        same(&rt, told, state);
     }
-    assert_eq!(rt; schedule.slot(16).left, 0);
-    assert_eq!(rt; schedule.clock(), 13);
+    same(&rt, schedule.slot(16).left, 0);
+    same(&rt, schedule.clock(), 13);
     Ok(())
 }

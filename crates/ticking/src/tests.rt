@@ -1,8 +1,9 @@
-//! Runs of small plans, against what was worked out by hand.
+//! Ticks and runs of small plans, against what was worked out by hand.
 
 mod deciding;
 mod refusals;
 mod rows;
+mod ticks;
 mod worked;
 
 use delay::DelayModel;
