@@ -23,6 +23,7 @@ use Rattle.standing.specs.declared.standings.Standing.TheVariants.{Open, Misses,
 abbrev pub taken : Setting → ℕ → ℕ → Bool
 taken c t k = nat_le 1 k && t == from c + k * c.hyperperiod
 
+-- The number of the sample that is taken then, if one is.
 abbrev pub sample_at : Setting → ℕ → Option ℕ
 sample_at c t = first_such (suc t) (taken c t)
 
