@@ -6,9 +6,10 @@ mod rows;
 mod ticks;
 mod worked;
 
-use delay::DelayModel;
-use dispatch::Policy;
+use delay::{DelayModel, LoadedBlocks, UsefulBlocks};
+use dispatch::{FixedPriority, Policy};
 use fault::{Cause, Fault, Layer};
+use plan::admit;
 use row_log::Log;
 use run::{Advance, Run, Stop};
 use schedule::{JobRow, Summary, SwitchRow};
@@ -48,6 +49,18 @@ const MISSES_12_1_0: Standing = Standing::Misses {
     task: 1,
     job: 0,
 };
+
+/// A run of plan S under fixed priority with loaded blocks.
+fn open_loaded() -> Result<Run<FixedPriority, LoadedBlocks>, Fault> {
+    let plan = admit(&S)?;
+    Ok(Run::open(&plan, FixedPriority::new(&plan), LoadedBlocks::new(&plan)))
+}
+
+/// A run of plan S under fixed priority with useful blocks.
+fn open_useful() -> Result<Run<FixedPriority, UsefulBlocks>, Fault> {
+    let plan = admit(&S)?;
+    Ok(Run::open(&plan, FixedPriority::new(&plan), UsefulBlocks::new(&plan)))
+}
 
 /// What an advance answers, and the clock after it.
 fn go_on<P: Policy, M: DelayModel>(

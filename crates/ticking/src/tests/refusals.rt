@@ -1,20 +1,16 @@
 //! What an advance refuses, and that a refusal changes nothing.
 
-use super::{MISSES_12_1_0, S, did, go_on, has_rows, job_row, refusal, same};
-use delay::UsefulBlocks;
-use dispatch::FixedPriority;
+use super::{MISSES_12_1_0, did, go_on, has_rows, job_row, open_useful, refusal, same};
 use fault::Cause;
-use plan::admit;
 use row_log::Log;
-use run::{Run, Stop};
+use run::Stop;
 use schedule::{JobRow, SwitchRow};
 use standing::Standing;
 use std::test::Fail;
 
 #[test]
 fn an_advance_by_too_many_ticks_is_refused(rt: HostRuntime) -> Result<(), Fail> {
-    let plan = admit(&S)?;
-    let mut run = Run::open(&plan, FixedPriority::new(&plan), UsefulBlocks::new(&plan));
+    let mut run = open_useful()?;
     let mut switch_rows = [SwitchRow::default(); 8];
     let mut jobs = Log::over(&mut []);
     let mut switches = Log::over(&mut switch_rows);
@@ -36,8 +32,7 @@ fn an_advance_by_too_many_ticks_is_refused(rt: HostRuntime) -> Result<(), Fail> 
 
 #[test]
 fn a_run_with_a_late_job_is_closed(rt: HostRuntime) -> Result<(), Fail> {
-    let plan = admit(&S)?;
-    let mut run = Run::open(&plan, FixedPriority::new(&plan), UsefulBlocks::new(&plan));
+    let mut run = open_useful()?;
     let mut job_rows = [JobRow::default(); 8];
     let mut switch_rows = [SwitchRow::default(); 8];
     let mut jobs = Log::over(&mut job_rows);

@@ -1,12 +1,9 @@
 //! What plan S under fixed priority with loaded blocks writes down, and what is told of its tasks.
 
-use super::{S, did, go_on, has_rows, job_row, refusal, same, summary, switch_row};
-use delay::LoadedBlocks;
-use dispatch::FixedPriority;
+use super::{did, go_on, has_rows, job_row, open_loaded, refusal, same, summary, switch_row};
 use fault::Cause;
-use plan::admit;
 use row_log::Log;
-use run::{Run, Stop};
+use run::Stop;
 use schedule::{JobRow, SwitchRow};
 use std::test::Fail;
 
@@ -25,8 +22,7 @@ const JOBS: [(usize, u64, u64, u64, u64); 3] = [(0, 0, 1, 3, 0), (0, 1, 7, 9, 0)
 
 #[test]
 fn a_run_writes_down_its_switches_and_jobs(rt: HostRuntime) -> Result<(), Fail> {
-    let plan = admit(&S)?;
-    let mut run = Run::open(&plan, FixedPriority::new(&plan), LoadedBlocks::new(&plan));
+    let mut run = open_loaded()?;
     let mut job_rows = [JobRow::default(); 8];
     let mut switch_rows = [SwitchRow::default(); 8];
     let mut jobs = Log::over(&mut job_rows);
@@ -40,8 +36,7 @@ fn a_run_writes_down_its_switches_and_jobs(rt: HostRuntime) -> Result<(), Fail> 
 
 #[test]
 fn clearing_one_log_leaves_the_other(rt: HostRuntime) -> Result<(), Fail> {
-    let plan = admit(&S)?;
-    let mut run = Run::open(&plan, FixedPriority::new(&plan), LoadedBlocks::new(&plan));
+    let mut run = open_loaded()?;
     let mut job_rows = [JobRow::default(); 8];
     let mut switch_rows = [SwitchRow::default(); 4];
     let mut jobs = Log::over(&mut job_rows);
@@ -63,8 +58,7 @@ fn clearing_one_log_leaves_the_other(rt: HostRuntime) -> Result<(), Fail> {
 
 #[test]
 fn summaries_tell_of_finished_jobs_and_of_all_delay(rt: HostRuntime) -> Result<(), Fail> {
-    let plan = admit(&S)?;
-    let mut run = Run::open(&plan, FixedPriority::new(&plan), LoadedBlocks::new(&plan));
+    let mut run = open_loaded()?;
     let mut job_rows = [JobRow::default(); 8];
     let mut switch_rows = [SwitchRow::default(); 8];
     let mut jobs = Log::over(&mut job_rows);

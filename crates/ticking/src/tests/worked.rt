@@ -1,10 +1,9 @@
 //! The worked advances of plan S under fixed priority with loaded blocks, in their order.
 
-use super::{HOLDS_13_1_0, S, did, go_on, has_rows, job_row, refusal, same};
+use super::{HOLDS_13_1_0, did, go_on, has_rows, job_row, open_loaded, refusal, same};
 use delay::LoadedBlocks;
 use dispatch::FixedPriority;
 use fault::Cause;
-use plan::admit;
 use row_log::Log;
 use run::{Run, Stop};
 use schedule::{JobRow, SwitchRow};
@@ -111,8 +110,7 @@ fn closed(rt: &impl Abort, run: &mut Worked, jobs: &mut Log<'_, JobRow>) {
 
 #[test]
 fn worked_advances(rt: HostRuntime) -> Result<(), Fail> {
-    let plan = admit(&S)?;
-    let mut run = Run::open(&plan, FixedPriority::new(&plan), LoadedBlocks::new(&plan));
+    let mut run = open_loaded()?;
     same(&rt, run.standing(), Standing::Open);
     same(&rt, run.clock(), 0);
     without_room(&rt, &mut run);
