@@ -49,6 +49,7 @@ struct Dates {
 #[derive(Clone, Copy, Default)]
 struct Summary {
     finished: u32,
+    /// of the finished jobs; the age of the live one comes in with the report
     worst: u32,
     delay: u64,
 }
@@ -235,6 +236,11 @@ impl Simulator {
         (0..self.plan.count).find(|&task| self.state.slots[task].live && self.dates[task].deadline == self.clock)
     }
 
+    /// How long ago the live job of a task was released; 0 where it has none.
+    fn age(&self, task: usize) -> u32 {
+        if self.state.slots[task].live { self.clock - self.dates[task].release } else { 0 }
+    }
+
     /// Advances to a verdict or to the last instant.
     fn run(&mut self) -> Verdict {
         let mut k = 0;
@@ -270,8 +276,11 @@ impl Simulator {
             Verdict::Holds { k, p } => format!("HOLDS {} {k} {p}\n", self.clock),
             Verdict::Misses { task, job } => format!("MISSES {} {task} {job}\n", self.clock),
         };
-        let tasks = self.summaries[..self.plan.count].iter().enumerate();
-        first + &tasks.map(|(task, s)| format!("{task} {} {} {}\n", s.finished, s.worst, s.delay)).collect::<String>()
+        let line = |task: usize| {
+            let Summary { finished, worst, delay } = self.summaries[task];
+            format!("{task} {finished} {} {delay}\n", worst.max(self.age(task)))
+        };
+        first + &(0..self.plan.count).map(line).collect::<String>()
     }
 }
 

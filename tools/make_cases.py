@@ -58,7 +58,7 @@ def table():
     yield "thousand-bytes-more", fl + S + bytes(1000), "REFUSED B 2 - 480\n"
     yield "one-row-more", fl + S + S[31:], "REFUSED B 2 - 480\n"
     yield "one-task-one-byte-more", fl + plan(S0) + b"\xff", "REFUSED B 2 - 248\n"
-    yield "sixteen", fl + plan(*[S0] * 16), told("MISSES 7 3 0", "1 2 0", "1 4 0", "1 6 0", *["0 0 0"] * 13)
+    yield "sixteen", fl + plan(*[S0] * 16), told("MISSES 7 3 0", "1 2 0", "1 4 0", "1 6 0", *["0 6 0"] * 13)
     yield "sixteen-one-byte-more", fl + plan(*[S0] * 16) + b"\1", "REFUSED B 2 - 3728\n"
     yield "sixteen-cut", fl + plan(*[S0] * 16)[:-1], "REFUSED B 1 15 3720\n"
     yield "fifteen-of-sixteen", fl + plan(*[S0] * 15, count=16), "REFUSED B 1 15 3496\n"
@@ -97,7 +97,7 @@ def table():
     yield "deadline-is-period-plus-1", fl + plan(row(deadline=11)), "REFUSED P 6 0 76\n"
     yield "work-deadline-period-1", fl + plan(row(period=1, deadline=1, work=1)), told("HOLDS 1 1 0", "1 1 0")
     yield "greatest-values", fl + plan(full, reload=63), told("HOLDS 2097150 1 0", "1 1048575 0")
-    yield "greatest-values-sixteen", fl + plan(*[full] * 16, reload=63), told("MISSES 2097150 1 0", "1 1048575 0", *["0 0 0"] * 15)
+    yield "greatest-values-sixteen", fl + plan(*[full] * 16, reload=63), told("MISSES 2097150 1 0", "1 1048575 0", *["0 1048575 0"] * 15)
     yield "useful-is-evicting", fl + plan(row(useful=lines(0, 31, 63), evicting=lines(0, 31, 63))), told("HOLDS 10 1 0", "1 1 0")
     yield "offset-over-period", fl + plan(row(offset=1000)), told("HOLDS 1010 1 0", "1 1 0")
     long = lambda *periods: fl + plan(*(row(period=p, deadline=p) for p in periods))

@@ -85,7 +85,7 @@ class Call:
 def imported(text):
     """What the lines `use` and `ghost use` bring of some crate's specs/, but for the library's and for the types of src/."""
     found = {}
-    for path, names in re.findall(r"^(?:ghost )?use ([\w.]+)\.\{([^}]*)\}", text, re.M):
+    for path, names in re.findall(r"^ *(?:ghost )?use ([\w.]+)\.\{([^}]*)\}", text, re.M):
         parts = path.split(".")
         if parts[1:2] != ["std"] and parts[2:3] == ["specs"] and "declared" not in parts:
             for name in names.split(","):
@@ -132,7 +132,7 @@ def functions(file):
 def members(text, code, start, end, item):
     """Fills in the functions and the ghost members between two places."""
     at = start
-    while found := re.compile(r"\bghost (?P<ghost>\w+)|" + FUNCTION.pattern).search(code, at, end):
+    while found := re.compile(r"\bghost (?!use\b)(?P<ghost>\w+)|" + FUNCTION.pattern).search(code, at, end):
         if found["ghost"]:
             begin = code.index("{", found.end())
             at = closing(code, begin)

@@ -16,3 +16,5 @@ pub mod Deadlines
 pub mod ReleaseTicks
 pub mod Displaced
 pub mod Served
+pub mod RowSummaries
+pub mod Responses

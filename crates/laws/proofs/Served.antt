@@ -28,16 +28,19 @@ served_alone c t i m j n p q =
     (same, cc (first.1, second.1, same))
 
 module _ (c : Setting) (a : Admitted c) (live : NamesLive c.rule) where
-  -- the live job of a tick has been released
-  served_after : (t i m : ℕ) → serves c t i m ≡ true → release (task_of c i) m ≤ t
+  -- the job of a task that has the core has been released
+  pub released_before : (t i : ℕ) → on_core c t ≡ Some i → release (task_of c i) (job_in c t i) ≤ t
   unfolding moment tick
-  served_after t i m h =
-      let it = serves_tells c t i m h in
-      let there = named_live c live t i it.0 in
+  released_before t i e =
+      let there = named_live c live t i e in
       let some = (ledger_entry c a live i there.0 t).known there.1 in
       let past : release (task_of c i) (job_in c t i) < suc t = (moment_next c (suc t) i a there.0).past some in
-      let here : release (task_of c i) m < suc t = rw it.1 at past in
       omega arith
+
+  served_after : (t i m : ℕ) → serves c t i m ≡ true → release (task_of c i) m ≤ t
+  served_after t i m h =
+      let it = serves_tells c t i m h in
+      rw it.1 at (released_before t i it.0)
 
   served_row : (t j : ℕ) → on_core c t ≡ Some j → finishes c j (entry c t).state ≡ true → ServedWhole c t (row_of c t j)
   served_row t j e f =

@@ -5,6 +5,7 @@ use Rattle.std.proofs.lemmas.Bool.{cases_Bool, cases_lt, eq-eqb}
 use Rattle.std.proofs.lemmas.Bool.Decides.{nat_tests}
 use Rattle.planning.specs.Following.{Followed}
 use Rattle.planning.specs.Runs.{reached_in, report_instant}
+use Rattle.run.proofs.Going.{undecided_before}
 use Rattle.run.specs.Advances.{Asking, Went, stop_after, stop_of}
 use Rattle.run.specs.Runs.{Shown, shown_at}
 use Rattle.run.specs.Written.{job_in, switch_in, written}
@@ -13,11 +14,6 @@ use Rattle.schedule.specs.States.{Setting}
 use Rattle.standing.specs.Standings.{is_open, standing_at}
 
 -- ---- an advance
-
--- where it goes on, nothing is decided
-going_open : (o d j s : Bool) → stop_of o d j s ≡ None → o ≡ true
-going_open true d j s e = refl
-going_open false d j s e = absurd (cc (e))
 
 -- where all ticks are done it does not go on
 done_stops : (o j s : Bool) → stop_of o true j s ≡ None → ⊥
@@ -51,7 +47,7 @@ module _ {c : Setting} {q : Asking} {x y : Shown} {a : Advance} (w : Went c q x 
           done_stops o j s (ap (λ (d : Bool). stop_of o d j s) (sym (eq-eqb q.ticks q.ticks refl)) ∙ w.going q.ticks l)
 
   pub was_undecided : (u : ℕ) → u < a.ticks → is_open (standing_at c (x.clock + u)) ≡ true
-  was_undecided u l = going_open _ (eqb u q.ticks) (leb q.job_rows (length (written (job_in c) x.clock u))) (leb q.switch_rows (length (written (switch_in c) x.clock u))) (w.going u l)
+  was_undecided u l = undecided_before c q x.clock u (w.going u l)
 
   pub led_clock : y.clock ≡ x.clock + a.ticks
   led_clock = ap (λ (z : Shown). z.clock) w.led

@@ -2,13 +2,13 @@
 --     ordered input         what an input says, order and plan, or its first fault: of the order line, then of the plan
 --     answer_text answer    the report of an order and a plan, or of a fault
 --     report_text input     the report of an input
---     DecidedFor answer     what the first line of the report says of the schedule without end, unless it is a fault
+--     TrueReportFor answer  what the report tells is true, unless it is a fault
 use Rattle.std.specs.Prelude.{ℕ, List, drop, IfOk, Ok, Err, Result}
 use Rattle.fault.specs.declared.Fault.{Fault}
 use Rattle.order.specs.Orders.{order_of, then}
 use Rattle.order.specs.declared.Order.{Order}
 use Rattle.plan.specs.Admission.{Content, admission}
-use Rattle.planning.specs.Runs.{Decided, run_text}
+use Rattle.planning.specs.Runs.{TrueReport, run_text}
 use Rattle.planning.specs.Settings.{setting_for}
 use Rattle.report.specs.Reports.{refused_line}
 
@@ -26,5 +26,5 @@ abbrev pub report_text : List ℕ → List ℕ
 report_text input = answer_text (ordered input)
 
 -- Of the schedule that the order and the plan ask for.
-abbrev pub DecidedFor : Result (Order × Content) Fault → Type 0
-DecidedFor answer = IfOk answer (λ x. Decided (setting_for x.0 x.1))
+abbrev pub TrueReportFor : Result (Order × Content) Fault → Type 0
+TrueReportFor answer = IfOk answer (λ x. TrueReport (setting_for x.0 x.1))

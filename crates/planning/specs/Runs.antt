@@ -5,16 +5,16 @@
 --     run_text c                  the report of the run of the schedule of c
 --     longest_report              no report has more bytes
 --     Answers c before after r    that report is written to the buffer, or the buffer is too short for it
---     Decided c                   what the first line of that report says of the schedule without end
+--     TrueReport c                what that report tells is true of the schedule of c
 use Rattle.std.specs.Prelude.{ℕ, zero, suc, cond, List, Result}
 use Rattle.fault.specs.declared.Fault.{Fault}
 use Rattle.report.specs.Buffers.{Written}
 use Rattle.report.specs.Reports.{standing_text}
 use Rattle.run.specs.Lives.{Call, Life}
-use Rattle.run.specs.Runs.{Shown}
+use Rattle.run.specs.Runs.{Shown, shown_at}
+use Rattle.run.specs.Truth.{TrueOf}
 use Rattle.schedule.specs.Schedules.{summaries}
 use Rattle.schedule.specs.States.{Setting}
-use Rattle.standing.specs.Decisions.{Decision}
 use Rattle.standing.specs.Standings.{is_open, standing_at}
 
 -- Which advances it has known does not matter.
@@ -42,6 +42,6 @@ longest_report = 1428
 abbrev pub Answers : Setting → List ℕ → List ℕ → Result ℕ Fault → Type 0
 Answers c before after r = Written longest_report (run_text c) before after r
 
--- MISSES names the first late job where that has been reached, HOLDS is told only where no job is ever late, and OPEN only before the instant by which equal samples are found.
-abbrev pub Decided : Setting → Type 0
-Decided c = Decision c (report_instant c) (standing_at c (report_instant c))
+-- The first line is true of the schedule without end; the worst responses, of its jobs up to the instant of the report.
+abbrev pub TrueReport : Setting → Type 0
+TrueReport c = TrueOf c (shown_at c (report_instant c))

@@ -1,6 +1,6 @@
 //! The run of a plan, for any policy and any delay model.
 
-ghost use Rattle.planning.specs.Runs.{Answers, Decided};
+ghost use Rattle.planning.specs.Runs.{Answers, TrueReport};
 ghost use Rattle.schedule.specs.States.{setting_of};
 
 use crate::following::follow;
@@ -20,9 +20,10 @@ pub(crate) fn answer<P: Policy + Drop, M: DelayModel + Drop>(
     out: &mut [u8],
 ) -> Result<usize, Fault>
     ensures report { Answers (setting_of plan.now (P.Policy.rule policy) (M.DelayModel.profile model)) out.old out.new result }
-    ensures decided { Decided (setting_of plan.now (P.Policy.rule policy) (M.DelayModel.profile model)) }
+    ensures truth { TrueReport (setting_of plan.now (P.Policy.rule policy) (M.DelayModel.profile model)) }
 {
     let mut run = Run::open(plan, policy, model);
     follow(&mut run)?;
-    write_standing(out, run.standing(), run.clock(), run.summaries())
+    let summaries = run.summaries();
+    write_standing(out, run.standing(), run.clock(), summaries.as_slice())
 }

@@ -2,7 +2,7 @@
 
 ghost use Rattle.std.specs.Prelude.{◌≡◌};
 ghost use Rattle.planning.specs.Runs.{longest_report};
-ghost use Rattle.planning.specs.Inputs.{DecidedFor, ordered, report_text};
+ghost use Rattle.planning.specs.Inputs.{TrueReportFor, ordered, report_text};
 ghost use Rattle.report.specs.Buffers.{Written};
 
 use crate::requests::Request;
@@ -15,7 +15,7 @@ pub const LONGEST_REPORT: usize = 1428;
 /// The report of an input, in a buffer that has room for each.
 pub fn whole_report<'a>(input: &[u8], out: &'a mut [u8; LONGEST_REPORT]) -> &'a [u8]
     ensures report { result.now ≡ report_text input.now }
-    ensures decided { DecidedFor (ordered input.now) }
+    ensures truth { TrueReportFor (ordered input.now) }
 {
     // only a buffer that is too short is refused
     let length = report_on(input, out).unwrap();
@@ -27,7 +27,7 @@ pub fn whole_report<'a>(input: &[u8], out: &'a mut [u8; LONGEST_REPORT]) -> &'a 
 /// What the first line of a report says of the schedule without end is in the contract, too.
 pub fn report_on(input: &[u8], out: &mut [u8]) -> Result<usize, Fault>
     ensures report { Written longest_report (report_text input.now) out.old out.new result }
-    ensures decided { DecidedFor (ordered input.now) }
+    ensures truth { TrueReportFor (ordered input.now) }
 {
     match Request::read(input) {
         Ok(request) => request.report(out),

@@ -1,13 +1,18 @@
 -- A run before its first tick.
-use Rattle.std.proofs.Common.{◌≡◌, ℕ, zero, suc, ◌*◌, ◌≤◌, length, replicate, take, sym, ap, ◌∙◌, arith}
-use Rattle.std.proofs.lemmas.List.{take-replicate}
+use Rattle.std.proofs.Common.{◌≡◌, ℕ, zero, suc, ◌*◌, ◌<◌, ◌≤◌, get_or, length, replicate, take, refl, sym, ap, ◌∙◌, arith}
+use Rattle.std.proofs.lemmas.List.{get_or-replicate, take-replicate}
+use Rattle.laws.proofs.Releases.{start_slot}
+use Rattle.laws.specs.Settings.{Admitted}
 use Rattle.run.proofs.Sampling.{compared_first}
 use Rattle.run.specs.Counts.{Within}
 use Rattle.run.specs.Watches.{Watching}
 use Rattle.run.specs.declared.watch.Watch.{Watch}
-use Rattle.schedule.specs.Rows.{no_summary}
-use Rattle.schedule.specs.Schedules.{from, summaries}
-use Rattle.schedule.specs.States.{Setting}
+use Rattle.schedule.proofs.Eaches.{each_still}
+use Rattle.schedule.specs.Jobs.{age}
+use Rattle.schedule.specs.Rows.{aged, no_summary}
+use Rattle.schedule.specs.Schedules.{age_in, with_ages, from, moment, row_summaries}
+use Rattle.schedule.specs.States.{Setting, next_of, task_of}
+use Rattle.schedule.specs.declared.slots.Slot.{Slot}
 use Rattle.standing.specs.Standings.{standing_at}
 use Rattle.standing.specs.declared.standings.Standing.TheVariants.{Open}
 
@@ -27,11 +32,21 @@ pub first_standing : (c : Setting) (t : ℕ) → t ≡ 0 → Open ≡ standing_a
 unfolding standing_at
 first_standing c t begun = ap (standing_at c) (sym begun)
 
-pub first_summaries : (c : Setting) (t : ℕ) → t ≡ 0 → length c.tasks ≤ 16 → take (length c.tasks) (replicate 16 no_summary) ≡ summaries c t
-unfolding summaries
-first_summaries c t begun few = take-replicate (length c.tasks) 16 no_summary few ∙ ap (summaries c) (sym begun)
+pub first_row_summaries : (c : Setting) (t : ℕ) → t ≡ 0 → length c.tasks ≤ 16 → take (length c.tasks) (replicate 16 no_summary) ≡ row_summaries c t
+unfolding row_summaries
+first_row_summaries c t begun few = take-replicate (length c.tasks) 16 no_summary few ∙ ap (row_summaries c) (sym begun)
 
 pub first_within : (n t : ℕ) → Within t (replicate n no_summary)
 first_within zero t i = (omega arith, omega arith)
 first_within (suc n) t zero = (omega arith, omega arith)
 first_within (suc n) t (suc i) = first_within n t i
+
+-- at instant 0 no job is live, so none has an age
+pub first_aged : (c : Setting) → Admitted c → with_ages c 0 (moment c 0) (replicate (length c.tasks) no_summary) ≡ replicate (length c.tasks) no_summary
+first_aged c a = each_still no_summary (length c.tasks) _ _ (λ i l. unaged i l)
+  where
+    unaged : (i : ℕ) → i < length c.tasks → aged (age_in c 0 (moment c 0) i) (get_or (replicate (length c.tasks) no_summary) i no_summary) ≡ get_or (replicate (length c.tasks) no_summary) i no_summary
+    unaged i l =
+        let none : age_in c 0 (moment c 0) i ≡ 0 = ap (λ (s : Slot). age 0 (task_of c i) (next_of (moment c 0) i) s) (start_slot c a i l) in
+        let same : get_or (replicate (length c.tasks) no_summary) i no_summary ≡ no_summary = get_or-replicate (length c.tasks) i no_summary no_summary l in
+        rw (none, same) refl

@@ -6,7 +6,7 @@ use Rattle.run.specs.Written.{job_in, switch_in}
 use Rattle.schedule.proofs.Owing.{Small, delay_small}
 use Rattle.schedule.proofs.Places.{placed_set}
 use Rattle.schedule.specs.Rows.{delayed, finished, no_summary, switch_row, switch_row_of}
-use Rattle.schedule.specs.Schedules.{moment, summaries}
+use Rattle.schedule.specs.Schedules.{moment, row_summaries}
 use Rattle.schedule.specs.States.{Moment, Setting}
 use Rattle.schedule.specs.Ticks.{chosen, is_running, released}
 use Rattle.schedule.specs.declared.rows.JobRow.{JobRow}
@@ -30,13 +30,13 @@ take_finished : (n : ℕ) (o : Option JobRow) (ys : List Summary) → take n (fi
 take_finished n None ys = refl
 take_finished n (Some r) ys = take_changed (λ (y : Summary). record { finished = y.finished + 1; worst = max y.worst (r.finish - r.release); delay = y.delay }) no_summary n r.task ys
 
-pub summaries_on : (c : Setting) (t n : ℕ) (rows : TickRows) (ys : List Summary)
-    → take n ys ≡ summaries c t → rows.switch ≡ switch_in c t → rows.job ≡ job_in c t → take n (counted rows ys) ≡ summaries c (t + 1)
-unfolding summaries
-summaries_on c t n rows ys h switch job =
+pub row_summaries_on : (c : Setting) (t n : ℕ) (rows : TickRows) (ys : List Summary)
+    → take n ys ≡ row_summaries c t → rows.switch ≡ switch_in c t → rows.job ≡ job_in c t → take n (counted rows ys) ≡ row_summaries c (t + 1)
+unfolding row_summaries
+row_summaries_on c t n rows ys h switch job =
     take_finished n rows.job (delayed rows.switch ys)
     ∙ (ap (finished rows.job) (take_delayed n rows.switch ys)
-    ∙ ((λ i. finished (job i) (delayed (switch i) (h i))) ∙ ap (summaries c) (sym (add-one t))))
+    ∙ ((λ i. finished (job i) (delayed (switch i) (h i))) ∙ ap (row_summaries c) (sym (add-one t))))
 
 -- ---- every number fits
 

@@ -1,5 +1,5 @@
 -- An advance, tick by tick.
-use Rattle.std.proofs.Common.{◌≡◌, ℕ, ◌+◌, ◌-◌, ◌<◌, Bool, false, eqb, leb, List, ◌++◌, length, Option, refl, sym, ap, ◌∙◌, arith}
+use Rattle.std.proofs.Common.{◌≡◌, ℕ, ◌+◌, ◌-◌, ◌<◌, Bool, true, false, eqb, leb, List, ◌++◌, length, None, Option, refl, sym, ap, ◌∙◌, arith}
 use Rattle.std.proofs.Math.Numerals.{add-one}
 use Rattle.std.proofs.lemmas.Bool.Decides.{nat_tests}
 use Rattle.std.proofs.lemmas.List.{append_assoc, append-nil, length-append}
@@ -12,6 +12,7 @@ use Rattle.run.specs.Followers.{clock_in}
 use Rattle.run.specs.Runs.{setting_in, shown, shown_at}
 use Rattle.run.specs.Written.{SameMemory, job_in, row_list, switch_in, written}
 use Rattle.run.specs.declared.runs.Run.{Run}
+use Rattle.schedule.specs.Schedules.{with_ages, moment}
 use Rattle.schedule.specs.States.{Setting}
 use Rattle.standing.specs.Standings.{is_open, standing_at}
 use Rattle.standing.specs.declared.standings.Standing.{Standing}
@@ -19,7 +20,11 @@ use Rattle.standing.specs.declared.standings.Standing.{Standing}
 -- ---- what a run shows is the schedule's own
 
 pub shows : {P M : Type 0} {p : policies.Ghosts P} {m : models.Ghosts M} (r : Run P M p m) → shown r ≡ shown_at (setting_in r) (clock_in r.follower)
-shows r = λ i. record { clock = clock_in r.follower; standing = r.decided i; summaries = r.counted i }
+shows r = λ i. record {
+  clock = clock_in r.follower;
+  standing = r.decided i;
+  summaries = with_ages (setting_in r) (clock_in r.follower) (moment (setting_in r) (clock_in r.follower)) (r.counted i);
+}
 
 -- ---- the rows of one tick more
 
@@ -36,6 +41,14 @@ written_more f t n u xs ys zs here before more =
     ∙ (append_assoc xs (written f t n) (row_list (f (t + n))) ∙ ap (λ (k : ℕ). xs ++ written f t k) (sym (add-one n))))
 
 -- ---- why it stops
+
+going_open : (o d j s : Bool) → stop_of o d j s ≡ None → o ≡ true
+going_open true d j s e = refl
+going_open false d j s e = absurd (cc (e))
+
+-- where an advance goes on, nothing is decided
+pub undecided_before : (c : Setting) (q : Asking) (t u : ℕ) → stop_after c t q u ≡ None → is_open (standing_at c (t + u)) ≡ true
+undecided_before c q t u = going_open _ (eqb u q.ticks) (leb q.job_rows (length (written (job_in c) t u))) (leb q.switch_rows (length (written (switch_in c) t u)))
 
 room_left : (r l n : ℕ) → leb r (l + n) ≡ leb (r - l) n
 room_left r l n = grind (arith, nat_tests)

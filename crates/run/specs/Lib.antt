@@ -3,5 +3,6 @@ pub mod Written
 pub mod Watches
 pub mod Counts
 pub mod Runs
+pub mod Truth
 pub mod Advances
 pub mod Lives

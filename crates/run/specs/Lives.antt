@@ -12,12 +12,12 @@ use Rattle.fault.specs.declared.Cause.TheVariants.{AdvanceTooLong, PastLastInsta
 use Rattle.fault.specs.declared.Fault.{Fault}
 use Rattle.run.specs.Advances.{Answered, Asking, run_fault, ticks_in}
 use Rattle.run.specs.Runs.{Shown, opening}
+use Rattle.run.specs.Truth.{TrueOf}
 use Rattle.run.specs.Written.{job_in, switch_in, written}
 use Rattle.run.specs.declared.advances.Advance.{Advance}
 use Rattle.run.specs.declared.advances.Stop.{Stop}
 use Rattle.run.specs.declared.advances.Stop.TheVariants.{Closed, CountReached, JobLogFull, SwitchLogFull}
 use Rattle.schedule.specs.States.{Setting}
-use Rattle.standing.specs.Decisions.{Decision}
 use Rattle.standing.specs.Standings.{is_open, standing_at}
 
 pub record Call : Type 0 where
@@ -58,7 +58,7 @@ Worked c k = MatchResult k.answer (λ a. Because c k.asked k.before.clock a.tick
 pub record Guarantee (c : Setting) (h : List Call) (x : Shown) : Type 0 where
   -- the clock counts the ticks of the schedule that the advances have answered
   pub ticks : x.clock ≡ ticks_of h
-  -- what the standing says of the schedule without end: first late job, never late, and it decides
-  pub decision : Decision c x.clock x.standing
+  -- what the run shows is true of its schedule
+  pub truth : TrueOf c x
   -- no advance was refused, and none stopped, without a cause
   pub works : All (Worked c) h

@@ -7,7 +7,9 @@ mod examining;
 mod follower;
 mod runs;
 mod summaries;
+mod task_summaries;
 mod watch;
 
 pub use advances::{Advance, Stop};
 pub use runs::Run;
+pub use task_summaries::TaskSummaries;

@@ -4,7 +4,7 @@ ghost use Rattle.std.specs.Prelude.{◌≡◌, ◌+◌, length, take};
 ghost use Rattle.run.specs.Counts.{Within};
 ghost use Rattle.run.specs.Followers.{clock_in, followed};
 ghost use Rattle.run.specs.Watches.{Watching};
-ghost use Rattle.schedule.specs.Schedules.{summaries};
+ghost use Rattle.schedule.specs.Schedules.{row_summaries};
 ghost use Rattle.standing.specs.Standings.{standing_at};
 
 mod advancing;
@@ -28,6 +28,6 @@ pub struct Run<P: Policy, M: DelayModel> {
     standing: Standing,
     ghost watching: { Watching (followed follower) (clock_in follower + 1) watch },
     ghost decided: { standing ≡ standing_at (followed follower) (clock_in follower) },
-    ghost counted: { take (length (followed follower).tasks) counts.rows ≡ summaries (followed follower) (clock_in follower) },
+    ghost counted: { take (length (followed follower).tasks) counts.rows ≡ row_summaries (followed follower) (clock_in follower) },
     ghost within: { Within (clock_in follower) counts.rows },
 }

@@ -1,6 +1,6 @@
 -- What is in a list after one thing was done to each of its first elements.
-use Rattle.std.proofs.Common.{◌≡◌, ℕ, zero, suc, ◌+◌, ◌<◌, ◌≤◌, ◌≢◌, List, ◌∷◌, map, length, get_or, set, refl, sym, ap, ◌∙◌, ⊎_elim, eq-or-lt_of_le, add-one, arith}
-use Rattle.std.proofs.lemmas.List.{get_or-set_other, get_or-set_same, length-set, set-get_or}
+use Rattle.std.proofs.Common.{◌≡◌, ℕ, zero, suc, ◌+◌, ◌<◌, ◌≤◌, ◌≢◌, List, ◌∷◌, map, length, get_or, set, take, refl, sym, ap, ◌∙◌, ⊎_elim, eq-or-lt_of_le, add-one, arith}
+use Rattle.std.proofs.lemmas.List.{ext_get_or, get_or-set_other, get_or-set_same, get_or-take, length-set, length-take-le, set-get_or}
 use Rattle.std.specs.List.{range_with_len}
 use Rattle.schedule.specs.Each.{each}
 
@@ -62,3 +62,18 @@ counted_same f g a zero h = refl
 counted_same {X} f g a (suc n) h =
     ap (λ (y : X). y ∷ map f (range_with_len (a + 1) n)) (h a (omega arith) (omega arith))
     ∙ ap (λ ys. g a ∷ ys) (counted_same f g (a + 1) n (λ i l m. h i (omega arith) (omega arith)))
+
+-- a list that shows each of the first elements as it is to be
+pub each_made : {X : Type 0} (d : X) (n : ℕ) (f : ℕ → X → X) (xs ys : List X) → n ≤ length xs → n ≤ length ys
+    → ((i : ℕ) → i < n → get_or ys i d ≡ f i (get_or xs i d)) → take n ys ≡ each d n f (take n xs)
+each_made d n f xs ys few more same = ext_get_or d _ _ (size ∙ sym (length_each d n f (take n xs) ∙ length-take-le n xs few)) one
+  where
+    size : length (take n ys) ≡ n
+    size = length-take-le n ys more
+
+    one : (i : ℕ) → i < length (take n ys) → get_or (take n ys) i d ≡ get_or (each d n f (take n xs)) i d
+    one i l =
+        let below : i < n = omega (arith, l, size) in
+        get_or-take n ys i d below
+        ∙ (same i below
+        ∙ sym (each_at d n f (take n xs) i d below (omega (arith, length-take-le n xs few, below)) ∙ ap (f i) (get_or-take n xs i d below)))

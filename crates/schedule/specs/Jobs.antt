@@ -9,6 +9,7 @@
 --     entered t k n s       the slot s after the releases of instant t
 --     shown t k n s         what a policy is shown of the slot s at instant t, after the releases
 --     late_job t k n s      the live job is late at instant t, before the releases
+--     age t k n s           how long ago the live job was released, at instant t, before the releases
 use Rattle.std.specs.Prelude.{ℕ, ◌+◌, ◌-◌, ◌*◌, Bool, true, false, cond, ◌&&◌, ◌==◌}
 use Rattle.dispatch.specs.declared.candidates.Candidate.{Candidate}
 use Rattle.plan.specs.declared.tasks.Task.{Task}
@@ -53,3 +54,7 @@ shown t k n s = record { live = s.live; left = s.left; owed = s.owed; begun = s.
 -- It is live at its deadline.
 abbrev pub late_job : ℕ → Task → ℕ → Slot → Bool
 late_job t k n s = s.live && t == deadline_at k (live_job n)
+
+-- It counts from the release, whether or not the job has begun. Zero where no job is live.
+abbrev pub age : ℕ → Task → ℕ → Slot → ℕ
+age t k n s = cond s.live (t - release k (live_job n)) 0

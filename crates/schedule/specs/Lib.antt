@@ -5,6 +5,7 @@ pub mod States
 pub mod Ticks
 pub mod Rows
 pub mod Schedules
+pub mod Responses
 pub mod JobTables
 pub mod Tables
 pub mod SlotLaws

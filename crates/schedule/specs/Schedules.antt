@@ -1,6 +1,9 @@
 -- The schedule without end, lateness and samples. Assumes nothing.
 --     moment c t            the moment at instant t, before the releases of t
 --     state_at c t          the state at instant t
+--     row_summaries c t     what the rows of the ticks before t say of each task: of its finished jobs, and of all delay
+--     age_in c t x i        the age of the live job of task i at instant t, where x is the moment then
+--     with_ages c t x ys    the summaries ys, with the ages of the jobs that are live in the moment x
 --     summaries c t         the summaries of the tasks at instant t
 --     late c t i            the job of task i is late at instant t
 --     late_first c t x      of the late jobs at instant t the one that counts, where x is the moment then, or none
@@ -13,8 +16,9 @@
 use Rattle.std.specs.Prelude.{◌≡◌, ℕ, zero, suc, ◌+◌, ◌*◌, ◌<◌, ◌≤◌, Bool, true, false, ◌&&◌, List, length, replicate, Some, None, Option, nat_lt}
 use Rattle.dispatch.specs.Rules.{first_such}
 use Rattle.plan.specs.Tasks.{greatest, offsets}
-use Rattle.schedule.specs.Jobs.{late_job, live_job}
-use Rattle.schedule.specs.Rows.{no_summary, summarized}
+use Rattle.schedule.specs.Each.{each}
+use Rattle.schedule.specs.Jobs.{age, late_job, live_job}
+use Rattle.schedule.specs.Rows.{aged, no_summary, summarized}
 use Rattle.schedule.specs.States.{Moment, Setting, State, next_of, slot_of, start_moment, task_of}
 use Rattle.schedule.specs.Ticks.{tick}
 use Rattle.schedule.specs.declared.rows.LateJob.{LateJob}
@@ -28,10 +32,22 @@ moment c (suc t) = tick c t (moment c t)
 abbrev pub state_at : Setting → ℕ → State
 state_at c t = (moment c t).state
 
--- Of all ticks before t.
-unfoldable pub summaries : Setting → ℕ → List Summary
-summaries c zero = replicate (length c.tasks) no_summary
-summaries c (suc t) = summarized c t (moment c t) (summaries c t)
+-- Of all ticks before t, by their rows alone: a job that has not finished has no response here.
+unfoldable pub row_summaries : Setting → ℕ → List Summary
+row_summaries c zero = replicate (length c.tasks) no_summary
+row_summaries c (suc t) = summarized c t (moment c t) (row_summaries c t)
+
+-- Zero where no job of it is live; a job that is due at t is not released yet.
+abbrev pub age_in : Setting → ℕ → Moment → ℕ → ℕ
+age_in c t x i = age t (task_of c i) (next_of x i) (slot_of x.state i)
+
+-- Each task by itself.
+abbrev pub with_ages : Setting → ℕ → Moment → List Summary → List Summary
+with_ages c t x ys = each no_summary (length c.tasks) (λ i y. aged (age_in c t x i) y) ys
+
+-- Of the rows written before t, and of the jobs that are live at t.
+abbrev pub summaries : Setting → ℕ → List Summary
+summaries c t = with_ages c t (moment c t) (row_summaries c t)
 
 -- Only a task of the plan can be late.
 abbrev pub late_in : Setting → ℕ → Moment → ℕ → Bool

@@ -5,7 +5,7 @@
 pub struct Summary {
     /// how many have finished
     pub finished: u64,
-    /// the greatest response time of these, finish minus release
+    /// the greatest response time of these, finish minus release, or the age of the live job where that is greater
     pub worst: u64,
     /// all delay that was answered, also to a job that has not finished
     pub delay: u64,

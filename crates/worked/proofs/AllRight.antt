@@ -9,7 +9,7 @@ use Rattle.delay.specs.Marks.{changed, keeping, zero_mark}
 use Rattle.plan.specs.Tasks.{periods}
 use Rattle.schedule.specs.Schedules.{from, sample, summaries}
 use Rattle.worked.specs.Cases.{Case, Right, admission_cases, cases, model_cases, schedule_cases}
-use Rattle.worked.specs.Cases.Case.{admitted, differ_in_kept, differ_in_running, holds, misses, refused, resumes}
+use Rattle.worked.specs.Cases.Case.{admitted, differ_in_kept, differ_in_running, holds, misses, refused, resumes, shows}
 use Rattle.worked.proofs.Admissions.{cut_refused, empty_refused, longer_refused, s_admitted}
 use Rattle.worked.proofs.Computing.{schedules}
 use Rattle.schedule.specs.StateLaws.{equal_same, same_state}
@@ -23,6 +23,7 @@ test (misses c t i m ys) = lcm_among c.hyperperiod (periods c.tasks) && (first_l
 test (holds c t k i ys) =
     lcm_among c.hyperperiod (periods c.tasks)
     && (t == from c + k * c.hyperperiod && (same_state (sample c k) (sample c i) && (quiet_before c (suc t) && summaries_eq (summaries c t) ys)))
+test (shows c t ys) = quiet_before c (suc t) && summaries_eq (summaries c t) ys
 test (differ_in_kept c i k j a b) =
     slots_eq (sample c i).slots (sample c k).slots
     && (task_eq (sample c i).running (sample c k).running
@@ -57,6 +58,9 @@ told (holds c t k i ys) h =
       on_time = on_time_to c t w.0;
       summed = same_summaries _ _ w.1;
     }
+told (shows c t ys) h =
+    let x = and_parts (quiet_before c (suc t)) _ h in
+    record { on_time = on_time_to c t x.0; summed = same_summaries _ _ x.1 }
 told (differ_in_kept c i k j a b) h =
     let x = and_parts (slots_eq (sample c i).slots (sample c k).slots) _ h in
     let y = and_parts (task_eq (sample c i).running (sample c k).running) _ x.1 in

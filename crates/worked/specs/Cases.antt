@@ -1,6 +1,6 @@
 -- The worked cases. Assumes nothing.
 --     Case                  what is said of a schedule, of a delay model, or of the bytes of a plan
---     Misses, Holds, DifferInKept, DifferInRunning      what is right of a schedule
+--     Misses, Holds, Shows, DifferInKept, DifferInRunning      what is right of a schedule
 --     Right case            that it is so, in the words of the schedule, the models and admission
 --     tally f w d           the summary of a task with f finished jobs, worst response w and total delay d
 --     mark s n              the mark that keeps the lines s and has the credit n
@@ -30,6 +30,8 @@ pub data Case : Type 0 where
   misses : Setting → ℕ → ℕ → ℕ → List Summary → Case
   -- c t k i ys: sample k, at instant t, equals sample i, no job is late up to there, and ys are the summaries there
   holds : Setting → ℕ → ℕ → ℕ → List Summary → Case
+  -- c t ys: no job is late up to instant t, and ys are the summaries there
+  shows : Setting → ℕ → List Summary → Case
   -- c i k j a b: samples i and k are the same, but that task j keeps the lines a in the one and b in the other
   differ_in_kept : Setting → ℕ → ℕ → ℕ → ℕ → ℕ → Case
   -- c i k a b: samples i and k are the same, but that a is running in the one and b in the other
@@ -55,6 +57,11 @@ pub record Holds (c : Setting) (t k i : ℕ) (ys : List Summary) : Type 0 where
   pub on_time : OnTimeTo c t
   pub summed : summaries c t ≡ ys
 
+-- A run that is asked at this instant shows them, whether or not it is decided there.
+pub record Shows (c : Setting) (t : ℕ) (ys : List Summary) : Type 0 where
+  pub on_time : OnTimeTo c t
+  pub summed : summaries c t ≡ ys
+
 -- All parts of a state are named, so nothing else differs.
 pub record DifferInKept (c : Setting) (i k j a b : ℕ) : Type 0 where
   pub slots : (sample c i).slots ≡ (sample c k).slots
@@ -75,6 +82,7 @@ pub record DifferInRunning (c : Setting) (i k : ℕ) (a b : Option ℕ) : Type 0
 abbrev pub Right : Case → Type 0
 Right (misses c t i m ys) = Misses c t i m ys
 Right (holds c t k i ys) = Holds c t k i ys
+Right (shows c t ys) = Shows c t ys
 Right (differ_in_kept c i k j a b) = DifferInKept c i k j a b
 Right (differ_in_running c i k a b) = DifferInRunning c i k a b
 Right (resumes p i k d after) = (p.answer i k ≡ d) × (p.resume i k ≡ after)
@@ -97,7 +105,7 @@ plan_answer = record { reload = 3; tasks = task 0 9 9 1 0 0 (line 1 + line 2) (l
 abbrev pub schedule_cases : List Case
 schedule_cases =
     holds (under (plan_s 0) 12 by_priority loaded_blocks) 13 1 0 (tally 2 2 0 ∷ tally 1 12 3 ∷ [])
-    ∷ misses (under (plan_s 0) 12 by_priority useful_blocks) 12 1 0 (tally 2 2 0 ∷ tally 0 0 4 ∷ [])
+    ∷ misses (under (plan_s 0) 12 by_priority useful_blocks) 12 1 0 (tally 2 2 0 ∷ tally 0 12 4 ∷ [])
     ∷ holds (under (plan_s 0) 12 by_priority no_delays) 13 1 0 (tally 2 2 0 ∷ tally 1 7 0 ∷ [])
     ∷ holds (under (plan_s 0) 12 by_priority fixed_delay) 13 1 0 (tally 2 2 0 ∷ tally 1 7 0 ∷ [])
     ∷ holds (under (plan_s 0) 12 (non_preemptive by_priority) no_delays) 13 1 0 (tally 2 6 0 ∷ tally 1 5 0 ∷ [])
@@ -112,10 +120,10 @@ schedule_cases =
     ∷ holds (under (plan_s 0) 12 (non_preemptive by_deadline) fixed_delay) 13 1 0 (tally 2 6 0 ∷ tally 1 5 0 ∷ [])
     ∷ holds (under (plan_s 0) 12 (non_preemptive by_deadline) useful_blocks) 13 1 0 (tally 2 6 0 ∷ tally 1 5 0 ∷ [])
     ∷ holds (under (plan_s 0) 12 (non_preemptive by_deadline) loaded_blocks) 13 1 0 (tally 2 6 0 ∷ tally 1 5 0 ∷ [])
-    ∷ misses (under (plan_s 3) 12 by_priority fixed_delay) 12 1 0 (tally 2 2 0 ∷ tally 0 0 6 ∷ [])
+    ∷ misses (under (plan_s 3) 12 by_priority fixed_delay) 12 1 0 (tally 2 2 0 ∷ tally 0 12 6 ∷ [])
     ∷ holds (under plan_one 1 by_priority no_delays) 1 1 0 (tally 1 1 0 ∷ [])
-    ∷ misses (under plan_two 1 by_priority no_delays) 1 1 0 (tally 1 1 0 ∷ tally 0 0 0 ∷ [])
-    ∷ misses (under plan_nested 12 by_priority useful_blocks) 6 2 0 (tally 1 1 0 ∷ tally 1 3 0 ∷ tally 0 0 1 ∷ [])
+    ∷ misses (under plan_two 1 by_priority no_delays) 1 1 0 (tally 1 1 0 ∷ tally 0 1 0 ∷ [])
+    ∷ misses (under plan_nested 12 by_priority useful_blocks) 6 2 0 (tally 1 1 0 ∷ tally 1 3 0 ∷ tally 0 6 1 ∷ [])
     ∷ holds (under plan_next 4 by_priority useful_blocks) 4 1 0 (tally 2 1 0 ∷ tally 1 2 0 ∷ [])
     ∷ holds (under plan_credit 12 by_priority loaded_blocks) 16 1 0 (tally 1 1 0 ∷ tally 2 1 0 ∷ tally 1 10 4 ∷ [])
     ∷ misses (under plan_kept 8 by_priority useful_blocks) 16 3 1 (tally 2 3 0 ∷ tally 2 1 0 ∷ tally 3 2 0 ∷ tally 1 8 2 ∷ [])
@@ -123,6 +131,10 @@ schedule_cases =
     ∷ misses (under plan_kept 8 by_priority loaded_blocks) 16 3 1 (tally 2 3 0 ∷ tally 2 1 0 ∷ tally 3 2 0 ∷ tally 1 8 2 ∷ [])
     ∷ holds (under plan_running 12 by_priority useful_blocks) 32 2 1 (tally 3 3 0 ∷ tally 3 1 0 ∷ tally 6 4 0 ∷ tally 2 10 2 ∷ [])
     ∷ differ_in_running (under plan_running 12 by_priority useful_blocks) 0 1 (Some 3) None
+    ∷ shows (under (plan_s 0) 12 by_priority loaded_blocks) 1 (tally 0 0 0 ∷ tally 0 1 0 ∷ [])
+    ∷ shows (under (plan_s 0) 12 by_priority loaded_blocks) 3 (tally 1 2 0 ∷ tally 0 3 0 ∷ [])
+    ∷ shows (under (plan_s 0) 12 by_priority loaded_blocks) 10 (tally 2 2 0 ∷ tally 0 10 3 ∷ [])
+    ∷ shows (under (plan_s 0) 12 by_priority loaded_blocks) 12 (tally 2 2 0 ∷ tally 1 12 3 ∷ [])
     ∷ []
 
 -- Both useful lines are missing, and the credit is enough for one.

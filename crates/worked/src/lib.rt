@@ -13,7 +13,7 @@ pub fn worked_cases() -> usize
     ensures law { All Right cases }
 {
     right_law();
-    32
+    36
 }
 
 /// Computes nothing: whoever calls it has the law.

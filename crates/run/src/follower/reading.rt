@@ -2,7 +2,7 @@
 
 ghost use Rattle.std.specs.Prelude.{◌≡◌};
 ghost use Rattle.run.specs.Followers.{clock_in, followed};
-ghost use Rattle.schedule.specs.Schedules.{late_first, moment, state_at};
+ghost use Rattle.schedule.specs.Schedules.{age_in, late_first, moment, state_at};
 
 use super::Follower;
 use delay::DelayModel;
@@ -23,6 +23,13 @@ impl<P: Policy, M: DelayModel> Follower<P, M> {
         ensures { result.now ≡ (followed self.now).tasks }
     {
         self.schedule.tasks()
+    }
+
+    /// How long ago the live job of a task was released; 0 where it has none.
+    pub(crate) fn age(&self, task: usize) -> u64
+        ensures { result ≡ age_in (followed self.now) (clock_in self.now) (moment (followed self.now) (clock_in self.now)) task }
+    {
+        self.schedule.age(task)
     }
 
     /// The late job that counts, if one is late at the clock.

@@ -17,13 +17,6 @@ impl Summaries {
         }
     }
 
-    /// All 16 of them, by task number.
-    pub(crate) fn rows(&self) -> &[Summary]
-        ensures { result.now ≡ self.now.rows }
-    {
-        &self.rows
-    }
-
     /// The summary of a task; for a number that no task has, that of a task to which nothing has happened.
     pub(crate) fn at(&self, task: usize) -> Summary
         ensures { result ≡ slice_index_or self.now.rows task no_summary }

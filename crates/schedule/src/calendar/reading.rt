@@ -61,6 +61,13 @@ impl Calendar {
         self.clock == self.next(task).live_deadline
     }
 
+    /// How long ago the live job of a task was released.
+    pub(crate) fn age(&self, task: usize) -> u64
+        ensures { result ≡ self.now.clock - release (task_in self.now task) (live_job (next_at self.now task)) }
+    {
+        self.clock.saturating_sub(self.release(task))
+    }
+
     /// The instant at which the live job of a task was released.
     pub(super) fn release(&self, task: usize) -> u64
         ensures { result ≡ release (task_in self.now task) (live_job (next_at self.now task)) }

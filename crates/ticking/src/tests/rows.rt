@@ -57,16 +57,22 @@ fn clearing_one_log_leaves_the_other(rt: HostRuntime) -> Result<(), Fail> {
 }
 
 #[test]
-fn summaries_tell_of_finished_jobs_and_of_all_delay(rt: HostRuntime) -> Result<(), Fail> {
+fn summaries_tell_of_finished_jobs_of_live_ones_and_of_all_delay(rt: HostRuntime) -> Result<(), Fail> {
     let mut run = open_loaded()?;
     let mut job_rows = [JobRow::default(); 8];
     let mut switch_rows = [SwitchRow::default(); 8];
     let mut jobs = Log::over(&mut job_rows);
     let mut switches = Log::over(&mut switch_rows);
+    // at 1, 7 and 12 a job is due, which has no age yet
     for (ticks, clock, first, second) in [
         (0, 0, (0, 0, 0), (0, 0, 0)),
-        (10, 10, (2, 2, 0), (0, 0, 3)),
-        (3, 13, (2, 2, 0), (1, 12, 3)),
+        (1, 1, (0, 0, 0), (0, 1, 0)),
+        (1, 2, (0, 1, 0), (0, 2, 0)),
+        (1, 3, (1, 2, 0), (0, 3, 0)),
+        (4, 7, (1, 2, 0), (0, 7, 1)),
+        (3, 10, (2, 2, 0), (0, 10, 3)),
+        (2, 12, (2, 2, 0), (1, 12, 3)),
+        (1, 13, (2, 2, 0), (1, 12, 3)),
     ] {
         same(
             &rt,
@@ -75,7 +81,7 @@ fn summaries_tell_of_finished_jobs_and_of_all_delay(rt: HostRuntime) -> Result<(
         );
         same(
             &rt,
-            run.summaries(),
+            run.summaries().as_slice(),
             [first, second].map(summary).as_slice(),
         );
         same(&rt, run.summary(0), Ok(summary(first)));
