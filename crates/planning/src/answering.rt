@@ -19,8 +19,12 @@ pub(crate) fn answer<P: Policy + Drop, M: DelayModel + Drop>(
     model: M,
     out: &mut [u8],
 ) -> Result<usize, Fault>
-    ensures report { Answers (setting_of plan.now (P.Policy.rule policy) (M.DelayModel.profile model)) out.old out.new result }
-    ensures truth { TrueReport (setting_of plan.now (P.Policy.rule policy) (M.DelayModel.profile model)) }
+    ensures report { Answers (setting_of plan.now
+        (P.Policy.rule policy)
+        (M.DelayModel.profile model)) out.old out.new result }
+    ensures truth { TrueReport (setting_of plan.now
+        (P.Policy.rule policy)
+        (M.DelayModel.profile model)) }
 {
     let mut run = Run::open(plan, policy, model);
     follow(&mut run)?;

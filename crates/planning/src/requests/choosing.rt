@@ -15,8 +15,12 @@ use order::{DelayKind, Dispatch, Preemption};
 impl Request {
     /// Writes the report of the plan under the order, and answers its length. A buffer that is too short for it is left as it was.
     pub(crate) fn report(&self, out: &mut [u8]) -> Result<usize, Fault>
-        ensures report { Answers (setting_of self.now.plan (rule_of self.now.order (content_of self.now.plan)) (profile_of self.now.order (content_of self.now.plan))) out.old out.new result }
-        ensures truth { TrueReport (setting_of self.now.plan (rule_of self.now.order (content_of self.now.plan)) (profile_of self.now.order (content_of self.now.plan))) }
+        ensures report { Answers (setting_of self.now.plan
+            (rule_of self.now.order (content_of self.now.plan))
+            (profile_of self.now.order (content_of self.now.plan))) out.old out.new result }
+        ensures truth { TrueReport (setting_of self.now.plan
+            (rule_of self.now.order (content_of self.now.plan))
+            (profile_of self.now.order (content_of self.now.plan))) }
     {
         match self.order.dispatch {
             Dispatch::FixedPriority => self.with_layer(FixedPriority::new(&self.plan), out),
@@ -26,8 +30,12 @@ impl Request {
 
     /// The same with this policy, as it is or under the layer that the order names.
     fn with_layer<P: Policy + Drop>(&self, policy: P, out: &mut [u8]) -> Result<usize, Fault>
-        ensures report { Answers (setting_of self.now.plan (layered self.now.order.preemption (P.Policy.rule policy)) (profile_of self.now.order (content_of self.now.plan))) out.old out.new result }
-        ensures truth { TrueReport (setting_of self.now.plan (layered self.now.order.preemption (P.Policy.rule policy)) (profile_of self.now.order (content_of self.now.plan))) }
+        ensures report { Answers (setting_of self.now.plan
+            (layered self.now.order.preemption (P.Policy.rule policy))
+            (profile_of self.now.order (content_of self.now.plan))) out.old out.new result }
+        ensures truth { TrueReport (setting_of self.now.plan
+            (layered self.now.order.preemption (P.Policy.rule policy))
+            (profile_of self.now.order (content_of self.now.plan))) }
     {
         match self.order.preemption {
             Preemption::Preemptive => self.with_model(policy, out),
@@ -37,8 +45,12 @@ impl Request {
 
     /// The same with this policy, and the delay model that the order names.
     fn with_model<P: Policy + Drop>(&self, policy: P, out: &mut [u8]) -> Result<usize, Fault>
-        ensures report { Answers (setting_of self.now.plan (P.Policy.rule policy) (profile_of self.now.order (content_of self.now.plan))) out.old out.new result }
-        ensures truth { TrueReport (setting_of self.now.plan (P.Policy.rule policy) (profile_of self.now.order (content_of self.now.plan))) }
+        ensures report { Answers (setting_of self.now.plan
+            (P.Policy.rule policy)
+            (profile_of self.now.order (content_of self.now.plan))) out.old out.new result }
+        ensures truth { TrueReport (setting_of self.now.plan
+            (P.Policy.rule policy)
+            (profile_of self.now.order (content_of self.now.plan))) }
     {
         let plan = &self.plan;
         match self.order.delay {

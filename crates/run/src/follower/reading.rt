@@ -25,9 +25,10 @@ impl<P: Policy, M: DelayModel> Follower<P, M> {
         self.schedule.tasks()
     }
 
-    /// How long ago the live job of a task was released; 0 where it has none.
+    /// The age of a task's live job, 0 where it has none.
     pub(crate) fn age(&self, task: usize) -> u64
-        ensures { result ≡ age_in (followed self.now) (clock_in self.now) (moment (followed self.now) (clock_in self.now)) task }
+        ensures { result ≡ age_in (followed self.now) (clock_in self.now)
+            (moment (followed self.now) (clock_in self.now)) task }
     {
         self.schedule.age(task)
     }

@@ -68,7 +68,8 @@ impl<P: Policy, M: DelayModel> Run<P, M> {
             (λ x. (task < length (shown self.now).summaries)
             × (x ≡ slice_index_or (shown self.now).summaries task x))
             (λ e. (e ≡ no_such_entry) × (nat_lt task (length (shown self.now).summaries) ≡ false)) }
-        ensures worst { IfOk result (λ x. IsWorst (setting_in self.now) (shown self.now).clock task x.worst) }
+        ensures worst { IfOk result (λ x.
+            IsWorst (setting_in self.now) (shown self.now).clock task x.worst) }
     {
         if task < self.follower.tasks().len() {
             Ok(self.summary_of(task))

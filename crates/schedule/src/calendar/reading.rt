@@ -63,7 +63,8 @@ impl Calendar {
 
     /// How long ago the live job of a task was released.
     pub(crate) fn age(&self, task: usize) -> u64
-        ensures { result ≡ self.now.clock - release (task_in self.now task) (live_job (next_at self.now task)) }
+        ensures { result ≡ self.now.clock
+            - release (task_in self.now task) (live_job (next_at self.now task)) }
     {
         self.clock.saturating_sub(self.release(task))
     }
