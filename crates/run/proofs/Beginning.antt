@@ -10,7 +10,7 @@ use Rattle.run.specs.declared.watch.Watch.{Watch}
 use Rattle.schedule.proofs.Eaches.{each_still}
 use Rattle.schedule.specs.Jobs.{age}
 use Rattle.schedule.specs.Rows.{aged, no_summary}
-use Rattle.schedule.specs.Schedules.{age_in, with_ages, from, moment, row_summaries}
+use Rattle.schedule.specs.Schedules.{age_in, from, moment, row_summaries, with_ages}
 use Rattle.schedule.specs.States.{Setting, next_of, task_of}
 use Rattle.schedule.specs.declared.slots.Slot.{Slot}
 use Rattle.standing.specs.Standings.{standing_at}

@@ -12,7 +12,7 @@ use Rattle.run.specs.Followers.{clock_in}
 use Rattle.run.specs.Runs.{setting_in, shown, shown_at}
 use Rattle.run.specs.Written.{SameMemory, job_in, row_list, switch_in, written}
 use Rattle.run.specs.declared.runs.Run.{Run}
-use Rattle.schedule.specs.Schedules.{with_ages, moment}
+use Rattle.schedule.specs.Schedules.{moment, with_ages}
 use Rattle.schedule.specs.States.{Setting}
 use Rattle.standing.specs.Standings.{is_open, standing_at}
 use Rattle.standing.specs.declared.standings.Standing.{Standing}

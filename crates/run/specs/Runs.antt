@@ -12,7 +12,7 @@ use Rattle.run.specs.Followers.{clock_in, followed}
 use Rattle.run.specs.declared.runs.Run.{Run}
 use Rattle.run.specs.declared.task_summaries.TaskSummaries.{TaskSummaries}
 use Rattle.schedule.specs.Rows.{no_summary}
-use Rattle.schedule.specs.Schedules.{with_ages, moment, summaries}
+use Rattle.schedule.specs.Schedules.{moment, summaries, with_ages}
 use Rattle.schedule.specs.States.{Setting}
 use Rattle.schedule.specs.declared.summaries.Summary.{Summary}
 use Rattle.standing.specs.Standings.{standing_at}

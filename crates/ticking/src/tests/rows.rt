@@ -57,7 +57,9 @@ fn clearing_one_log_leaves_the_other(rt: HostRuntime) -> Result<(), Fail> {
 }
 
 #[test]
-fn summaries_tell_of_finished_jobs_of_live_ones_and_of_all_delay(rt: HostRuntime) -> Result<(), Fail> {
+fn summaries_tell_of_finished_jobs_of_live_ones_and_of_all_delay(
+    rt: HostRuntime,
+) -> Result<(), Fail> {
     let mut run = open_loaded()?;
     let mut job_rows = [JobRow::default(); 8];
     let mut switch_rows = [SwitchRow::default(); 8];

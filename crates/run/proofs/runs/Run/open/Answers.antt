@@ -1,12 +1,12 @@
 use Rattle.std.proofs.Common.{List, length, take, sym, ap, ◌∙◌, subst}
 use Rattle.std.proofs.lemmas.List.{take-replicate}
 use Rattle.laws.proofs.Plans.{admitted_plan}
-use Rattle.run.proofs.Beginning.{first_aged, first_standing, first_row_summaries, first_watch, first_within}
+use Rattle.run.proofs.Beginning.{first_aged, first_row_summaries, first_standing, first_watch, first_within}
 use Rattle.run.proofs.runs.Run.open.Goals as goal
 use Rattle.run.specs.Counts.{Within}
 use Rattle.run.specs.Followers.{clock_in, followed}
 use Rattle.schedule.specs.Rows.{no_summary}
-use Rattle.schedule.specs.Schedules.{with_ages, from, moment}
+use Rattle.schedule.specs.Schedules.{from, moment, with_ages}
 use Rattle.schedule.specs.States.{Setting}
 use Rattle.schedule.specs.Tables.{plan_of}
 use Rattle.schedule.specs.declared.summaries.Summary.{Summary}
