@@ -4,9 +4,9 @@ use Rattle.std.proofs.lemmas.Bool.{both_ways, cases_Bool, cases_eq, cases_lt, co
 use Rattle.dispatch.specs.Rules.{NamesLive}
 use Rattle.schedule.proofs.Eaches.{each_at}
 use Rattle.schedule.specs.Jobs.{due, fresh, live_job, release, vacant}
-use Rattle.schedule.specs.Responses.{IsWorst, Responded, Waiting}
-use Rattle.schedule.specs.Rows.{aged, finishes, job_row, job_row_of, no_summary}
-use Rattle.schedule.specs.Schedules.{age_in, moment, row_summaries, state_at, summaries}
+use Rattle.schedule.specs.Responses.{IsWorst, Responded, LiveFor}
+use Rattle.schedule.specs.Rows.{finishes, job_row, job_row_of, no_summary}
+use Rattle.schedule.specs.Schedules.{age_in, aged, moment, row_summaries, state_at, summaries}
 use Rattle.schedule.specs.States.{Setting, next_of, slot_of, task_of}
 use Rattle.schedule.specs.Ticks.{tick}
 use Rattle.schedule.specs.declared.rows.JobRow.{JobRow}
@@ -126,7 +126,7 @@ module _ (c : Setting) (a : Admitted c) (live : NamesLive c.rule) (i : ℕ) (kno
   -- ---- of the live job
 
   -- it is as old as its release is far back
-  pub live_age : (t : ℕ) → (slot_of (state_at c t) i).live ≡ true
+  live_age : (t : ℕ) → (slot_of (state_at c t) i).live ≡ true
       → t ≡ release (task_of c i) (live_job (next_of (moment c t) i)) + age_in c t (moment c t) i
   live_age t l =
       let past = (moment_next c t i a known).past ((ledger_at c a live i known t).known l) in
@@ -191,24 +191,24 @@ module _ (c : Setting) (a : Admitted c) (live : NamesLive c.rule) (i : ℕ) (kno
     age_now : ℕ
     age_now = age_in c t (moment c t) i
 
-    Known : ℕ → Type 0
-    Known v = (Responded c t i v ⊎ Waiting c t i v) ⊎ ((v ≡ 0) × (t ≤ (task_of c i).offset))
+    Attained : ℕ → Type 0
+    Attained v = (Responded c t i v ⊎ LiveFor c t i v) ⊎ ((v ≡ 0) × (t ≤ (task_of c i).offset))
 
-    known_live : (slot_of (state_at c t) i).live ≡ true → Known (max longest age_now)
-    unfolding Known longest age_now
-    known_live l = ⊎_elim younger older (cases_lt age_now longest)
+    attained_live : (slot_of (state_at c t) i).live ≡ true → Attained (max longest age_now)
+    unfolding Attained longest age_now
+    attained_live l = ⊎_elim younger older (cases_lt age_now longest)
       where
-        younger : age_now < longest → Known (max longest age_now)
+        younger : age_now < longest → Attained (max longest age_now)
         younger h =
             let same : max longest age_now ≡ longest = omega (arith, h) in
             rw same (inl (inl (⊎_elim (λ p. p) (λ z. absurd (omega (arith, z.0, h))) (greatest_at t).reached)))
 
-        older : longest ≤ age_now → Known (max longest age_now)
+        older : longest ≤ age_now → Attained (max longest age_now)
         older h = let same : max longest age_now ≡ age_now = omega (arith, h) in rw same (inl (inr (record { live = l; age = live_age t l })))
 
-    known_vacant : (slot_of (state_at c t) i).live ≡ false → Known (max longest age_now)
-    unfolding Known longest age_now
-    known_vacant l = rw same (⊎_elim (λ p. inl (inl p)) (λ z. inr (z.0, unreleased z.1)) (greatest_at t).reached)
+    attained_vacant : (slot_of (state_at c t) i).live ≡ false → Attained (max longest age_now)
+    unfolding Attained longest age_now
+    attained_vacant l = rw same (⊎_elim (λ p. inl (inl p)) (λ z. inr (z.0, unreleased z.1)) (greatest_at t).reached)
       where
         same : max longest age_now ≡ longest
         same = omega (arith, cond-false (slot_of (state_at c t) i).live (t - release (task_of c i) (live_job (next_of (moment c t) i))) 0 l)
@@ -225,11 +225,11 @@ module _ (c : Setting) (a : Admitted c) (live : NamesLive c.rule) (i : ℕ) (kno
             (started_at t)
 
     pub worst_told : IsWorst c t i (get_or (summaries c t) i no_summary).worst
-    unfolding Known longest age_now
+    unfolding Attained longest age_now
     worst_told =
         rw (told_at t)
         (record {
           finished = λ r h. omega (arith, (greatest_at t).bound r h);
           live = λ r h. omega (arith, live_age t h.live, h.age);
-          told = ⊎_elim known_live known_vacant (cases_Bool (slot_of (state_at c t) i).live);
+          told = ⊎_elim attained_live attained_vacant (cases_Bool (slot_of (state_at c t) i).live);
         })

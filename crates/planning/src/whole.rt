@@ -24,7 +24,8 @@ pub fn whole_report<'a>(input: &[u8], out: &'a mut [u8; LONGEST_REPORT]) -> &'a 
 
 /// Writes the report of an input, and answers its length. A buffer that is too short for it is left as it was.
 ///
-/// What the first line of a report says of the schedule without end is in the contract, too.
+/// That what a report tells is true is in the contract, too: its first line of the schedule without end, its worst responses up to the
+/// instant of the report.
 pub fn report_on(input: &[u8], out: &mut [u8]) -> Result<usize, Fault>
     ensures report { Written longest_report (report_text input.now) out.old out.new result }
     ensures truth { TrueReportFor (ordered input.now) }

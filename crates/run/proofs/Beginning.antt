@@ -9,8 +9,8 @@ use Rattle.run.specs.Watches.{Watching}
 use Rattle.run.specs.declared.watch.Watch.{Watch}
 use Rattle.schedule.proofs.Eaches.{each_still}
 use Rattle.schedule.specs.Jobs.{age}
-use Rattle.schedule.specs.Rows.{aged, no_summary}
-use Rattle.schedule.specs.Schedules.{age_in, from, moment, row_summaries, with_ages}
+use Rattle.schedule.specs.Rows.{no_summary}
+use Rattle.schedule.specs.Schedules.{age_in, aged, from, moment, row_summaries, summaries}
 use Rattle.schedule.specs.States.{Setting, next_of, task_of}
 use Rattle.schedule.specs.declared.slots.Slot.{Slot}
 use Rattle.standing.specs.Standings.{standing_at}
@@ -42,8 +42,9 @@ first_within (suc n) t zero = (omega arith, omega arith)
 first_within (suc n) t (suc i) = first_within n t i
 
 -- at instant 0 no job is live, so none has an age
-pub first_aged : (c : Setting) → Admitted c → with_ages c 0 (moment c 0) (replicate (length c.tasks) no_summary) ≡ replicate (length c.tasks) no_summary
-first_aged c a = each_still no_summary (length c.tasks) _ _ (λ i l. unaged i l)
+pub first_summaries : (c : Setting) → Admitted c → summaries c 0 ≡ replicate (length c.tasks) no_summary
+unfolding row_summaries
+first_summaries c a = each_still no_summary (length c.tasks) _ _ (λ i l. unaged i l)
   where
     unaged : (i : ℕ) → i < length c.tasks → aged (age_in c 0 (moment c 0) i) (get_or (replicate (length c.tasks) no_summary) i no_summary) ≡ get_or (replicate (length c.tasks) no_summary) i no_summary
     unaged i l =

@@ -12,7 +12,7 @@ use Rattle.run.specs.Followers.{clock_in}
 use Rattle.run.specs.Runs.{setting_in, shown, shown_at}
 use Rattle.run.specs.Written.{SameMemory, job_in, row_list, switch_in, written}
 use Rattle.run.specs.declared.runs.Run.{Run}
-use Rattle.schedule.specs.Schedules.{moment, with_ages}
+use Rattle.schedule.specs.Schedules.{summaries}
 use Rattle.schedule.specs.States.{Setting}
 use Rattle.standing.specs.Standings.{is_open, standing_at}
 use Rattle.standing.specs.declared.standings.Standing.{Standing}
@@ -20,11 +20,7 @@ use Rattle.standing.specs.declared.standings.Standing.{Standing}
 -- ---- what a run shows is the schedule's own
 
 pub shows : {P M : Type 0} {p : policies.Ghosts P} {m : models.Ghosts M} (r : Run P M p m) → shown r ≡ shown_at (setting_in r) (clock_in r.follower)
-shows r = λ i. record {
-  clock = clock_in r.follower;
-  standing = r.decided i;
-  summaries = with_ages (setting_in r) (clock_in r.follower) (moment (setting_in r) (clock_in r.follower)) (r.counted i);
-}
+shows r = λ i. record { clock = clock_in r.follower; standing = r.decided i; summaries = summaries (setting_in r) (clock_in r.follower) }
 
 -- ---- the rows of one tick more
 

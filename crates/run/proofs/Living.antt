@@ -3,25 +3,25 @@ use Rattle.std.proofs.Common.{◌≡◌, ℕ, ◌+◌, ◌-◌, ◌<◌, ◌≤�
 use Rattle.std.proofs.lemmas.Bool.{cases_lt, eqb-true, leb-true, ltb-true}
 use Rattle.std.proofs.lemmas.List.Elements.{All-cons, All-nil}
 use Rattle.std.specs.List.{All}
+use Rattle.dispatch.specs.Rules.{NamesLive}
 use Rattle.fault.specs.declared.Cause.TheVariants.{AdvanceTooLong, PastLastInstant, RunClosed}
 use Rattle.fault.specs.declared.Fault.{Fault}
-use Rattle.dispatch.specs.Rules.{NamesLive}
 use Rattle.laws.specs.Settings.{Admitted}
-use Rattle.run.proofs.Beginning.{first_aged}
+use Rattle.run.proofs.Beginning.{first_summaries}
 use Rattle.run.proofs.Going.{undecided_before}
-use Rattle.run.proofs.Truths.{Fresh, late_told, worst_at}
+use Rattle.run.proofs.Truths.{UndecidedBefore, late_told, worst_shown_at}
 use Rattle.run.specs.Advances.{Answered, Asking, refusal, run_fault, stop_after, stop_of}
 use Rattle.run.specs.Lives.{Because, Call, Guarantee, Life, Refusable, Worked, ticks_of}
 use Rattle.run.specs.Lives.Life.{advanced, cleared, opened, queried}
 use Rattle.run.specs.Lives.Refusable.{closed, too_far, too_long}
 use Rattle.run.specs.Runs.{Shown, opening, shown_at}
 use Rattle.run.specs.Truth.{TrueOf}
-use Rattle.schedule.specs.Schedules.{row_summaries}
-use Rattle.standing.specs.declared.standings.Standing.TheVariants.{Open}
 use Rattle.run.specs.Written.{job_in, switch_in, written}
 use Rattle.run.specs.declared.advances.Advance.{Advance}
 use Rattle.run.specs.declared.advances.Stop.{Stop}
+use Rattle.schedule.specs.Schedules.{row_summaries}
 use Rattle.schedule.specs.States.{Setting}
+use Rattle.standing.specs.declared.standings.Standing.TheVariants.{Open}
 use Rattle.standing.proofs.Deciding.{decision}
 use Rattle.standing.specs.Standings.{is_open, standing_at}
 
@@ -52,22 +52,22 @@ refusable n x f = go (ltb 1000000000 n) refl (is_open x.standing) refl (ltb 1000
 
 record Kept (c : Setting) (h : List Call) (x : Shown) : Type 0 where
   stood : x ≡ shown_at c x.clock
-  fresh : Fresh c x.clock
+  undecided : UndecidedBefore c x.clock
   ticks : x.clock ≡ ticks_of h
   works : All (Worked c) h
 
 started : (c : Setting) → Admitted c → Kept c [] (opening c)
 unfolding standing_at row_summaries
-started c a = record { stood = λ i. record { clock = 0; standing = Open; summaries = sym (first_aged c a) i }; fresh = inl refl; ticks = refl; works = All-nil (Worked c) }
+started c a = record { stood = λ i. record { clock = 0; standing = Open; summaries = sym (first_summaries c a) i }; undecided = inl refl; ticks = refl; works = All-nil (Worked c) }
 
 -- each tick that is done is done where nothing is decided
-fresh_on : (c : Setting) (q : Asking) (t : ℕ) (a : Advance) → Fresh c t → ((u : ℕ) → u < a.ticks → stop_after c t q u ≡ None) → Fresh c (t + a.ticks)
-fresh_on c q t a before going = ⊎_elim none some (cases_lt a.ticks 1)
+undecided_on : (c : Setting) (q : Asking) (t : ℕ) (a : Advance) → UndecidedBefore c t → ((u : ℕ) → u < a.ticks → stop_after c t q u ≡ None) → UndecidedBefore c (t + a.ticks)
+undecided_on c q t a before going = ⊎_elim none some (cases_lt a.ticks 1)
   where
-    none : a.ticks < 1 → Fresh c (t + a.ticks)
+    none : a.ticks < 1 → UndecidedBefore c (t + a.ticks)
     none l = let same : t + a.ticks ≡ t = omega (arith, l) in rw same before
 
-    some : 1 ≤ a.ticks → Fresh c (t + a.ticks)
+    some : 1 ≤ a.ticks → UndecidedBefore c (t + a.ticks)
     some l =
         let last : t + (a.ticks - 1) ≡ t + a.ticks - 1 = omega (arith, l) in
         inr (ap (λ (u : ℕ). is_open (standing_at c u)) (sym last) ∙ undecided_before c q t (a.ticks - 1) (going (a.ticks - 1) (omega (arith, l))))
@@ -75,10 +75,10 @@ fresh_on c q t a before going = ⊎_elim none some (cases_lt a.ticks 1)
 went_on : (c : Setting) (h : List Call) (x y : Shown) (q : Asking) (r : Result Advance Fault) → Kept c h x → Answered c q x y r → Kept c (record { asked = q; before = x; answer = r } ∷ h) y
 went_on c h x y q (Ok a) kept (none, went) =
     subst (Kept c (record { asked = q; before = x; answer = Ok a } ∷ h)) (sym went.led)
-    (record { stood = refl; fresh = fresh_on c q x.clock a kept.fresh went.going; ticks = ap (λ (n : ℕ). n + a.ticks) kept.ticks; works = All-cons (Worked c) _ h (because c q x.clock a.ticks a.stop went.stopped) kept.works })
+    (record { stood = refl; undecided = undecided_on c q x.clock a kept.undecided went.going; ticks = ap (λ (n : ℕ). n + a.ticks) kept.ticks; works = All-cons (Worked c) _ h (because c q x.clock a.ticks a.stop went.stopped) kept.works })
 went_on c h x y q (Err f) kept (some, same) =
     subst (Kept c (record { asked = q; before = x; answer = Err f } ∷ h)) (sym same)
-    (record { stood = kept.stood; fresh = kept.fresh; ticks = omega (arith, kept.ticks); works = All-cons (Worked c) _ h (refusable q.ticks x f some) kept.works })
+    (record { stood = kept.stood; undecided = kept.undecided; ticks = omega (arith, kept.ticks); works = All-cons (Worked c) _ h (refusable q.ticks x f some) kept.works })
 
 kept : (c : Setting) → Admitted c → (h : List Call) (x : Shown) → Life c h x → Kept c h x
 kept c p h x (opened e) = subst (Kept c []) (sym e) (started c p)
@@ -91,6 +91,6 @@ guaranteed c a live h x life =
     let k = kept c a h x life in
     record {
       ticks = k.ticks;
-      truth = subst (TrueOf c) (sym k.stood) (record { decision = decision c a x.clock; worst = worst_at c a live x.clock; late = λ u i m e. late_told c a live x.clock u i m k.fresh e });
+      truth = subst (TrueOf c) (sym k.stood) (record { decision = decision c a x.clock; worst = worst_shown_at c a live x.clock; late_shown = λ u i m e. late_told c a live x.clock u i m k.undecided e });
       works = k.works;
     }

@@ -2,7 +2,7 @@
 --     setting_in r          the schedule that r follows, by what it depends on
 --     Shown                 the clock, the standing and a summary a task
 --     shown r               those of r
---     summaries_in s             the summaries in s
+--     summaries_in s        the summaries in s
 --     opening c             what a new run that follows the schedule of c shows
 --     shown_at c t          what it shows at clock t
 use Rattle.std.specs.Prelude.{ℕ, List, length, replicate, take}
@@ -12,7 +12,7 @@ use Rattle.run.specs.Followers.{clock_in, followed}
 use Rattle.run.specs.declared.runs.Run.{Run}
 use Rattle.run.specs.declared.task_summaries.TaskSummaries.{TaskSummaries}
 use Rattle.schedule.specs.Rows.{no_summary}
-use Rattle.schedule.specs.Schedules.{moment, summaries, with_ages}
+use Rattle.schedule.specs.Schedules.{summaries}
 use Rattle.schedule.specs.States.{Setting}
 use Rattle.schedule.specs.declared.summaries.Summary.{Summary}
 use Rattle.standing.specs.Standings.{standing_at}
@@ -33,7 +33,7 @@ abbrev pub shown : {P M : Type 0} {p : policies.Ghosts P} {m : models.Ghosts M} 
 shown r = record {
   clock = clock_in r.follower;
   standing = r.standing;
-  summaries = with_ages (setting_in r) (clock_in r.follower) (moment (setting_in r) (clock_in r.follower)) (take (length (setting_in r).tasks) r.counts.rows);
+  summaries = summaries (setting_in r) (clock_in r.follower);
 }
 
 -- One a task, in the order of the plan.

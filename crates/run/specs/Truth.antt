@@ -23,4 +23,5 @@ pub record TrueOf (c : Setting) (x : Shown) : Type 0 where
   -- no finished job took longer than the worst response of its task, no live one is older, and one of them is what it tells
   pub worst : WorstShown c x
   -- at MISSES the clock is the instant that is named, and the worst response of the late task is at least its deadline
-  pub late : (u i m : ℕ) → x.standing ≡ Misses u i m → (u ≡ x.clock) × ((task_of c i).deadline ≤ worst_in x i)
+  pub late_shown : (u i m : ℕ) → x.standing ≡ Misses u i m
+      → (u ≡ x.clock) × ((task_of c i).deadline ≤ worst_in x i)

@@ -28,6 +28,7 @@ pub struct Run<P: Policy, M: DelayModel> {
     standing: Standing,
     ghost watching: { Watching (followed follower) (clock_in follower + 1) watch },
     ghost decided: { standing ≡ standing_at (followed follower) (clock_in follower) },
-    ghost counted: { take (length (followed follower).tasks) counts.rows ≡ row_summaries (followed follower) (clock_in follower) },
+    ghost counted: { take (length (followed follower).tasks) counts.rows
+        ≡ row_summaries (followed follower) (clock_in follower) },
     ghost within: { Within (clock_in follower) counts.rows },
 }

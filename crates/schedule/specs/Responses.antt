@@ -1,7 +1,7 @@
 -- The response times of a task that are known at an instant. Assumes nothing.
 --     Responded c t i r     a job of task i has finished by instant t, r ticks after its release
---     Waiting c t i r       a job of task i is live at instant t, r ticks after its release
---     IsWorst c t i w       w is the greatest of these, and 0 while there is none
+--     LiveFor c t i r       a job of task i is live at instant t, r ticks after its release
+--     IsWorst c t i w       w is the greatest of these, or 0 up to the first release
 use Rattle.std.specs.Prelude.{◌≡◌, ℕ, ◌+◌, ◌<◌, ◌≤◌, ◌⊎◌, true, Some}
 use Rattle.schedule.specs.Jobs.{live_job, release}
 use Rattle.schedule.specs.Rows.{job_row}
@@ -19,7 +19,7 @@ pub record Responded (c : Setting) (t i r : ℕ) : Type 0 where
   pub response : row.finish ≡ row.release + r
 
 -- A job that is due at t is not released yet.
-pub record Waiting (c : Setting) (t i r : ℕ) : Type 0 where
+pub record LiveFor (c : Setting) (t i r : ℕ) : Type 0 where
   pub live : (slot_of (state_at c t) i).live ≡ true
   pub age : t ≡ release (task_of c i) (live_job (next_of (moment c t) i)) + r
 
@@ -27,6 +27,6 @@ pub record IsWorst (c : Setting) (t i w : ℕ) : Type 0 where
   -- no job has finished in more ticks
   pub finished : (r : ℕ) → Responded c t i r → r ≤ w
   -- no job has been live for more
-  pub live : (r : ℕ) → Waiting c t i r → r ≤ w
-  -- some job has finished in so many, or has been live for so many, or none has been released
-  pub told : (Responded c t i w ⊎ Waiting c t i w) ⊎ ((w ≡ 0) × (t ≤ (task_of c i).offset))
+  pub live : (r : ℕ) → LiveFor c t i r → r ≤ w
+  -- some job has finished in so many, or has been live for so many; or none has been released yet
+  pub told : (Responded c t i w ⊎ LiveFor c t i w) ⊎ ((w ≡ 0) × (t ≤ (task_of c i).offset))

@@ -4,7 +4,6 @@
 --     job_row c t x         the job row of tick t, or none
 --     no_summary            of a task of which nothing has been written down
 --     summarized c t x ys   what the rows of tick t make of the summaries ys
---     aged a y              the summary y, with a response of at least a ticks
 use Rattle.std.specs.Prelude.{ℕ, ◌+◌, ◌-◌, max, Bool, cond, List, set, Some, None, Option, ◌==◌, slice_index, slice_index_or, slice_set}
 use Rattle.schedule.specs.Jobs.{live_job, release}
 use Rattle.schedule.specs.States.{Moment, Setting, State, next_of, slot_of, task_of}
@@ -68,7 +67,3 @@ finished (Some r) ys =
 -- By the rows of the tick, and by nothing else.
 abbrev pub summarized : Setting → ℕ → Moment → List Summary → List Summary
 summarized c t x ys = finished (job_row c t x) (delayed (switch_row c t x) ys)
-
--- A live job responds in its age at least.
-abbrev pub aged : ℕ → Summary → Summary
-aged a y = record { finished = y.finished; worst = max y.worst a; delay = y.delay }

@@ -3,6 +3,7 @@
 --     state_at c t          the state at instant t
 --     row_summaries c t     what the rows of the ticks before t say of each task: of its finished jobs, and of all delay
 --     age_in c t x i        the age of the live job of task i at instant t, where x is the moment then
+--     aged a y              the summary y, with a response of at least a ticks
 --     with_ages c t x ys    the summaries ys, with the ages of the jobs that are live in the moment x
 --     summaries c t         the summaries of the tasks at instant t
 --     late c t i            the job of task i is late at instant t
@@ -13,12 +14,12 @@
 --     FirstLate c t i m     job m of task i is the first late job, at instant t
 --     from c                the greatest offset, from which on the releases repeat
 --     sample c k            the state at the greatest offset and k hyperperiods
-use Rattle.std.specs.Prelude.{◌≡◌, ℕ, zero, suc, ◌+◌, ◌*◌, ◌<◌, ◌≤◌, Bool, true, false, ◌&&◌, List, length, replicate, Some, None, Option, nat_lt}
+use Rattle.std.specs.Prelude.{◌≡◌, ℕ, zero, suc, ◌+◌, ◌*◌, ◌<◌, ◌≤◌, Bool, true, false, ◌&&◌, max, List, length, replicate, Some, None, Option, nat_lt}
 use Rattle.dispatch.specs.Rules.{first_such}
 use Rattle.plan.specs.Tasks.{greatest, offsets}
 use Rattle.schedule.specs.Each.{each}
 use Rattle.schedule.specs.Jobs.{age, late_job, live_job}
-use Rattle.schedule.specs.Rows.{aged, no_summary, summarized}
+use Rattle.schedule.specs.Rows.{no_summary, summarized}
 use Rattle.schedule.specs.States.{Moment, Setting, State, next_of, slot_of, start_moment, task_of}
 use Rattle.schedule.specs.Ticks.{tick}
 use Rattle.schedule.specs.declared.rows.LateJob.{LateJob}
@@ -40,6 +41,10 @@ row_summaries c (suc t) = summarized c t (moment c t) (row_summaries c t)
 -- Zero where no job of it is live; a job that is due at t is not released yet.
 abbrev pub age_in : Setting → ℕ → Moment → ℕ → ℕ
 age_in c t x i = age t (task_of c i) (next_of x i) (slot_of x.state i)
+
+-- A live job responds in its age at least.
+abbrev pub aged : ℕ → Summary → Summary
+aged a y = record { finished = y.finished; worst = max y.worst a; delay = y.delay }
 
 -- Each task by itself.
 abbrev pub with_ages : Setting → ℕ → Moment → List Summary → List Summary

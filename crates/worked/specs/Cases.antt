@@ -57,7 +57,7 @@ pub record Holds (c : Setting) (t k i : ℕ) (ys : List Summary) : Type 0 where
   pub on_time : OnTimeTo c t
   pub summed : summaries c t ≡ ys
 
--- A run that is asked at this instant shows them, whether or not it is decided there.
+-- No job is late so far, and a run that comes so far shows them.
 pub record Shows (c : Setting) (t : ℕ) (ys : List Summary) : Type 0 where
   pub on_time : OnTimeTo c t
   pub summed : summaries c t ≡ ys

@@ -2,13 +2,12 @@
 
 ghost use Rattle.std.specs.Prelude.{◌≡◌, ◌<◌, List, false, length, IfOk, MatchResult, nat_lt, slice_index_or};
 ghost use Rattle.row_log.specs.Entries.{no_such_entry};
-ghost use Rattle.run.specs.Followers.{clock_in};
 ghost use Rattle.run.specs.Lives.{Call, Guarantee, Life};
 ghost use Rattle.run.specs.Runs.{setting_in, shown, summaries_in};
 ghost use Rattle.run.specs.Truth.{WorstShown};
 ghost use Rattle.schedule.specs.Responses.{IsWorst};
-ghost use Rattle.schedule.specs.Rows.{aged, no_summary};
-ghost use Rattle.schedule.specs.Schedules.{age_in, moment};
+ghost use Rattle.schedule.specs.Rows.{no_summary};
+ghost use Rattle.schedule.specs.Schedules.{age_in, aged, moment};
 
 use super::Run;
 use crate::task_summaries::TaskSummaries;
@@ -23,8 +22,9 @@ impl<P: Policy, M: DelayModel> Run<P, M> {
     /// How the run stands.
     ///
     /// The guarantee in its contract, whatever calls the run has known since it was opened: MISSES names the schedule's first late job,
-    /// and the summary of that task shows at least its deadline. HOLDS means that no job is ever late; where none is, a run that goes on
-    /// for long enough is decided. A worst response is the greatest that is known at the clock. No advance stopped without a cause.
+    /// and the summary of that task shows at least its deadline. HOLDS means that no job is ever late. Where none is and the samples show
+    /// no more than V different states, the run is not OPEN from 3 × V hyperperiods after the greatest offset on. Each worst response
+    /// is the greatest that is known at the clock. No advance was refused, and none stopped, without a cause.
     pub fn standing(&self) -> Standing
         ensures value { result ≡ (shown self.now).standing }
         ensures guarantee { (calls : List Call) → Life (setting_in self.now) calls (shown self.now)

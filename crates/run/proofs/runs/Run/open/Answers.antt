@@ -1,12 +1,10 @@
 use Rattle.std.proofs.Common.{List, length, take, sym, ap, ◌∙◌, subst}
-use Rattle.std.proofs.lemmas.List.{take-replicate}
 use Rattle.laws.proofs.Plans.{admitted_plan}
-use Rattle.run.proofs.Beginning.{first_aged, first_row_summaries, first_standing, first_watch, first_within}
+use Rattle.run.proofs.Beginning.{first_row_summaries, first_standing, first_summaries, first_watch, first_within}
 use Rattle.run.proofs.runs.Run.open.Goals as goal
 use Rattle.run.specs.Counts.{Within}
 use Rattle.run.specs.Followers.{clock_in, followed}
-use Rattle.schedule.specs.Rows.{no_summary}
-use Rattle.schedule.specs.Schedules.{from, moment, with_ages}
+use Rattle.schedule.specs.Schedules.{from, summaries}
 use Rattle.schedule.specs.States.{Setting}
 use Rattle.schedule.specs.Tables.{plan_of}
 use Rattle.schedule.specs.declared.summaries.Summary.{Summary}
@@ -37,7 +35,8 @@ invariant_of-result g c =
 pub returns-clause-shown : goal.returns-clause-shown
 returns-clause-shown g c =
     let f = c.new-follower.result in
-    let few = (admitted_plan (plan_of f.schedule) (followed f).rule (followed f).profile).few in
-    let none = ap (take (length (followed f).tasks)) c.new.ensures ∙ take-replicate (length (followed f).tasks) 16 no_summary few in
-    let aged = (λ i. with_ages (followed f) (c.new-follower.ensures.clock i) (moment (followed f) (c.new-follower.ensures.clock i)) (none i)) ∙ first_aged (followed f) (admitted_plan (plan_of f.schedule) (followed f).rule (followed f).profile) in
-    λ i. record { clock = c.new-follower.ensures.clock i; standing = Open; summaries = aged i }
+    let none =
+    ap (summaries (followed f)) c.new-follower.ensures.clock
+    ∙ first_summaries (followed f) (admitted_plan (plan_of f.schedule) (followed f).rule (followed f).profile)
+    in
+    λ i. record { clock = c.new-follower.ensures.clock i; standing = Open; summaries = none i }

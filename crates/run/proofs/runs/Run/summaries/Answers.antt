@@ -5,8 +5,8 @@ use Rattle.run.proofs.runs.Run.summaries.Goals as goal
 use Rattle.run.specs.Followers.{clock_in}
 use Rattle.run.specs.Runs.{setting_in}
 use Rattle.schedule.proofs.Eaches.{each_made}
-use Rattle.schedule.specs.Rows.{aged, no_summary}
-use Rattle.schedule.specs.Schedules.{age_in, moment}
+use Rattle.schedule.specs.Rows.{no_summary}
+use Rattle.schedule.specs.Schedules.{age_in, aged, moment, with_ages}
 
 pub returns-clause-value : goal.returns-clause-value
 returns-clause-value g c =
@@ -20,6 +20,7 @@ returns-clause-value g c =
     ∙ each_made no_summary (length x.tasks) (λ i y. aged (age_in x t (moment x t) i) y) self.counts.rows c.from_fn.result
     (omega (arith, few, self.counts.sized)) (omega (arith, few, made.long))
     (λ i l. made_at (λ p. p.0.now ≡ self) told made refl (λ p q i y s called. search rules) i no_summary (omega (arith, l, few)))
+    ∙ ap (with_ages x t (moment x t)) self.counted
 
 pub returns-clause-worst : goal.returns-clause-worst
 returns-clause-worst g c = worst_shown c.args.self.now (g.met.P.Policy.lawful c.args.self.now.follower.policy)
