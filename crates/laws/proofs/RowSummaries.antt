@@ -13,20 +13,18 @@ use Rattle.schedule.specs.declared.summaries.Summary.{Summary}
 abbrev pub worst_at : List Summary → ℕ → ℕ
 worst_at ys i = (get_or ys i no_summary).worst
 
-length_delayed : (o : Option SwitchRow) (ys : List Summary) → length (delayed o ys) ≡ length ys
-length_delayed None ys = refl
-length_delayed (Some r) ys = simp length-set
-
-length_finished : (o : Option JobRow) (ys : List Summary) → length (finished o ys) ≡ length ys
-length_finished None ys = refl
-length_finished (Some r) ys = simp length-set
+-- rows change summaries in their places
+length_after_rows : (o : Option SwitchRow) (p : Option JobRow) (ys : List Summary) → length (finished p (delayed o ys)) ≡ length ys
+length_after_rows None None ys = refl
+length_after_rows None (Some q) ys = simp length-set
+length_after_rows (Some r) None ys = simp length-set
+length_after_rows (Some r) (Some q) ys = simp length-set
 
 pub length_row_summaries : (c : Setting) (t : ℕ) → length (row_summaries c t) ≡ length c.tasks
 unfolding row_summaries
 length_row_summaries c zero = length-replicate (length c.tasks) no_summary
 length_row_summaries c (suc t) =
-    length_finished (job_row c t (moment c t)) (delayed (switch_row c t (moment c t)) (row_summaries c t))
-    ∙ (length_delayed (switch_row c t (moment c t)) (row_summaries c t) ∙ length_row_summaries c t)
+    length_after_rows (switch_row c t (moment c t)) (job_row c t (moment c t)) (row_summaries c t) ∙ length_row_summaries c t
 
 -- one summary put in its place changes that task alone
 worst_own : (ys : List Summary) (y : Summary) (i j : ℕ) → i ≡ j → i < length ys → worst_at (set ys j y) i ≡ y.worst
@@ -47,7 +45,7 @@ module _ (c : Setting) (t i : ℕ) (known : i < length c.tasks) where
 
   room : i < length before
   unfolding before
-  room = omega (arith, known, length_delayed (switch_row c t (moment c t)) (row_summaries c t), length_row_summaries c t)
+  room = omega (arith, known, length_after_rows (switch_row c t (moment c t)) None (row_summaries c t), length_row_summaries c t)
 
   worst_before : worst_at before i ≡ worst_at (row_summaries c t) i
   unfolding before
