@@ -52,6 +52,8 @@ impl<P: Policy, M: DelayModel> Run<P, M> {
     }
 
     /// The summaries of the tasks, in the order of the plan.
+    // a hint to the compiler: inlined beside the loop of a caller, it makes every tick of that loop slower by a tenth
+    #[inline(never)]
     pub fn summaries(&self) -> TaskSummaries
         ensures value { summaries_in result ≡ (shown self.now).summaries }
         ensures worst { WorstShown (setting_in self.now) (shown self.now) }
