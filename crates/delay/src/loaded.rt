@@ -56,14 +56,20 @@ impl MarkRule for LoadedBlocksRule {
     }
 
     fn resume(&self, task: usize, mark: Mark) -> Mark {
-        Mark {
-            kept: self.plan.task(task).useful,
-            credit: mark.credit - self.answer(task, mark),
-        }
+        self.pay(task, mark).0
     }
 
     fn answer(&self, task: usize, mark: Mark) -> u16 {
         let missing = to_reload(&self.plan, task, mark);
         loaded_ticks(missing, mark.credit, self.plan.block_reload_time())
+    }
+
+    fn pay(&self, task: usize, mark: Mark) -> (Mark, u16) {
+        let delay = self.answer(task, mark);
+        let after = Mark {
+            kept: self.plan.task(task).useful,
+            credit: mark.credit - delay,
+        };
+        (after, delay)
     }
 }

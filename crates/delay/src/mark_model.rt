@@ -70,13 +70,10 @@ impl<R: MarkRule> DelayModel for MarkModel<R> {
 
     fn resume(&mut self, task: usize) -> u16 {
         let mark = self.table.at(task);
-        self.table.put(task, self.rule.resume(task, mark));
+        let (after, delay) = self.rule.pay(task, mark);
+        self.table.put(task, after);
         // a `DelayModel` promises 0 for a number above 15, whatever the rule answers for it
-        if task < MOST_TASKS {
-            self.rule.answer(task, mark)
-        } else {
-            0
-        }
+        if task < MOST_TASKS { delay } else { 0 }
     }
 
     fn finish(&mut self, task: usize) {

@@ -36,6 +36,13 @@ pub trait MarkRule {
     fn answer(&self, task: usize, mark: Mark) -> u16
         ensures { result ≡ (profile self.now).answer task mark };
 
+    /// Both at once, for a rule of which the one needs the other: the mark of the task once it has the core again, and the delay.
+    fn pay(&self, task: usize, mark: Mark) -> (Mark, u16)
+        ensures { result ≡ ((profile self.now).resume task mark, (profile self.now).answer task mark) }
+    {
+        (self.resume(task, mark), self.answer(task, mark))
+    }
+
     ghost bounded: { (r : Self) (i : ℕ) (k : Mark) → (profile r).answer i k ≤ 4096 };
 }
 

@@ -5,7 +5,7 @@ use Rattle.fault.specs.declared.Fault.{Fault}
 use Rattle.report.specs.Buffers.{Put, Whole, Written}
 
 -- two lists that agree from r on agree from any later place on
-drop_further : (r s : ℕ) (xs ys : List ℕ) → r ≤ s → drop r ys ≡ drop r xs → drop s ys ≡ drop s xs
+pub drop_further : (r s : ℕ) (xs ys : List ℕ) → r ≤ s → drop r ys ≡ drop r xs → drop s ys ≡ drop s xs
 drop_further r s xs ys h e =
     let at-s : r + (s - r) ≡ s = omega arith in
     let to-ys = drop-drop (s - r) r ys in

@@ -26,11 +26,11 @@ pub measured_all : {text : List ℕ} {before after : Room} → TookAll Measured 
 measured_all {before = s} nothing = off_nothing s.left
 measured_all {before = s} {after = u} (further {t = t} {text = a} {piece = b} p q) = off_then s.left t.left u.left a b (measured_all p) q
 
--- the text fits where something is left of the room, be it nothing more than 0
-pub off_fits : (room most : ℕ) (text : List ℕ) (left : Option ℕ) → TakenOff (Some room) text left → length text ≤ most
+-- the text fits where something is left of the room, be it nothing more than 0; a part of the text may have used the room up
+pub off_fits : (room most : ℕ) (text part : List ℕ) (left : Option ℕ) → TakenOff (Some room) text left → TakenOff (Some room) part left → length part ≤ most
     → MatchBool (is_some left) (length text ≤ room) ((room < length text) × (room < most))
-off_fits room most text None h k = (h, omega arith)
-off_fits room most text (Some n) h k = omega arith
+off_fits room most text part None h p k = (h, omega (arith, p, k))
+off_fits room most text part (Some n) h p k = omega arith
 
 -- a text is written as one piece would be
 pub wrote_all : {text : List ℕ} {before after : Lent} → TookAll Wrote before text after → Wrote before text after

@@ -1,6 +1,7 @@
 -- What takes a text piece by piece. Assumes nothing.
 --     TookAll took before text after      the sink took the text, in some number of pieces
 --     Takes took most text before after   it did, and the text has at most `most` bytes
+--     Reaches took most text before after   it took the text, and was as it is now after at most `most` bytes of it
 --     TakenOff room piece left              what is left of a room after the piece, None where it does not fit
 --     Measured before piece after         the piece was taken off the room
 --     Wrote before piece after            the piece was put at the place of the lent buffer
@@ -19,6 +20,12 @@ pub data TookAll {S : Type 0} (took : S → List ℕ → S → Type 0) : S → L
 pub record Takes {S : Type 0} (took : S → List ℕ → S → Type 0) (most : ℕ) (text : List ℕ) (before after : S) : Type 0 where
   pub all : TookAll took before text after
   pub short : length text ≤ most
+
+-- A sink that no piece changes any more need not be shown the rest of a text. The part that it was shown has the bound.
+pub record Reaches {S : Type 0} (took : S → List ℕ → S → Type 0) (most : ℕ) (text : List ℕ) (before after : S) : Type 0 where
+  pub all : TookAll took before text after
+  pub part : List ℕ
+  pub enough : Takes took most part before after
 
 -- The length is taken off the room, so that no sum of lengths is ever made. Once something did not fit, nothing does.
 abbrev pub TakenOff : Option ℕ → List ℕ → Option ℕ → Type 0

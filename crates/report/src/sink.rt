@@ -1,6 +1,6 @@
 //! What a text is put into piece by piece: a room that it is measured against, and a lent buffer.
 
-ghost use Rattle.std.specs.Prelude.{ℕ, List};
+ghost use Rattle.std.specs.Prelude.{ℕ, IsTrue, List};
 ghost use Rattle.report.specs.Sinks.{Measured, Wrote};
 
 use crate::sink::lent::Lent;
@@ -18,6 +18,10 @@ pub(crate) trait Sink {
 
     fn put(&mut self, piece: &[u8])
         ensures { took self.old piece.now self.new };
+
+    /// Whether no piece changes the sink any more.
+    fn is_spent(&self) -> bool
+        ensures { IsTrue result → (piece : List ℕ) → took self.now piece self.now };
 }
 
 impl Sink for Room {
@@ -25,6 +29,10 @@ impl Sink for Room {
 
     fn put(&mut self, piece: &[u8]) {
         self.left = self.left.and_then(|left| left.checked_sub(piece.len()));
+    }
+
+    fn is_spent(&self) -> bool {
+        self.left.is_none()
     }
 }
 
@@ -39,5 +47,9 @@ impl Sink for Lent<'_> {
             self.out[self.at..end].copy_from_slice(piece);
             self.at = end;
         }
+    }
+
+    fn is_spent(&self) -> bool {
+        false
     }
 }

@@ -1,7 +1,7 @@
 //! The lines of the tasks in a report.
 
 ghost use Rattle.std.specs.Prelude.{◌≡◌, ◌*◌, length};
-ghost use Rattle.report.specs.Sinks.{Takes};
+ghost use Rattle.report.specs.Sinks.{Reaches};
 ghost use Rattle.report.specs.Reports.{task_words, task_lines};
 
 use crate::line::put_line;
@@ -20,9 +20,13 @@ fn task_words(summary: Summary) -> [Word; 3]
 }
 
 pub(crate) fn put_tasks<S: Sink>(sink: &mut S, summaries: &[Summary])
-    ensures { Takes S.took (84 * length summaries.now) (task_lines 0 summaries.now) sink.old sink.new }
+    ensures { Reaches S.took (84 * length summaries.now) (task_lines 0 summaries.now) sink.old sink.new }
 {
     for (task, summary) in summaries.iter().enumerate() {
+        // a room that is used up is measured no further, however many tasks follow
+        if sink.is_spent() {
+            return;
+        }
         put_line(sink, Word::Number(task as u64), &task_words(*summary));
     }
 }

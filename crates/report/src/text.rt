@@ -2,7 +2,7 @@
 
 ghost use Rattle.std.specs.Prelude.{◌≡◌, ◌<◌, ◌≤◌, length, MatchBool};
 ghost use Rattle.report.specs.Buffers.{Whole, Written};
-ghost use Rattle.report.specs.Sinks.{Takes};
+ghost use Rattle.report.specs.Sinks.{Reaches};
 ghost use Rattle.report.specs.Texts.{most_of, whole_text};
 
 use crate::line::put_line;
@@ -36,7 +36,7 @@ impl<'a> Text<'a> {
     }
 
     fn put<S: Sink>(&self, sink: &mut S)
-        ensures { Takes S.took (most_of self.now) (whole_text self.now) sink.old sink.new }
+        ensures { Reaches S.took (most_of self.now) (whole_text self.now) sink.old sink.new }
     {
         put_line(sink, self.first, self.words);
         put_tasks(sink, self.tasks);
