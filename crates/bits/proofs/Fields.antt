@@ -19,9 +19,13 @@ as_number true = refl
 as_number false = refl
 
 -- the last bit of a shifted byte
-pub bit_of_byte : (bs : List ℕ) (i : ℕ) → from_bool (ltb 0 (bit_and (get_or bs (i / 8) 0 / 2 ^ (7 - i % 8)) 1)) ≡ bit bs i
+pub bit_of_byte : (bs : List ℕ) (i : ℕ) → bit_and (get_or bs (i / 8) 0 / 2 ^ (7 - i % 8)) 1 ≡ bit bs i
 unfolding bit
-bit_of_byte bs i = as_number _ ∙ last_bit (get_or bs (i / 8) 0 / 2 ^ (7 - i % 8))
+bit_of_byte bs i = and_mask (get_or bs (i / 8) 0 / 2 ^ (7 - i % 8)) 1
+
+-- whether it is set, as a bit
+pub bit_is_set : (bs : List ℕ) (i : ℕ) → from_bool (ltb 0 (bit_and (get_or bs (i / 8) 0 / 2 ^ (7 - i % 8)) 1)) ≡ bit bs i
+bit_is_set bs i = rw (bit_of_byte bs i) (as_number _ ∙ grind (arith, nat_tests, bit_below_two bs i))
 
 pub spelled_none : (bs : List ℕ) (at : ℕ) → spelled bs at 0 ≡ 0
 unfolding spelled

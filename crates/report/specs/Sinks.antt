@@ -1,7 +1,7 @@
 -- What takes a text piece by piece. Assumes nothing.
 --     TookAll took before text after      the sink took the text, in some number of pieces
 --     Takes took most text before after   it did, and the text has at most `most` bytes
---     Reaches took most text before after   it took the text, and was as it is now after at most `most` bytes of it
+--     Reaches took most text before after   it took the text, and at most `most` bytes make it what it is after that
 --     TakenOff room piece left              what is left of a room after the piece, None where it does not fit
 --     Measured before piece after         the piece was taken off the room
 --     Wrote before piece after            the piece was put at the place of the lent buffer
@@ -21,7 +21,8 @@ pub record Takes {S : Type 0} (took : S → List ℕ → S → Type 0) (most : �
   pub all : TookAll took before text after
   pub short : length text ≤ most
 
--- A sink that no piece changes any more need not be shown the rest of a text. The part that it was shown has the bound.
+-- A sink that no piece changes any more need not be shown the rest of a text, so the bound is on what makes of it the same: the part
+-- that it was shown.
 pub record Reaches {S : Type 0} (took : S → List ℕ → S → Type 0) (most : ℕ) (text : List ℕ) (before after : S) : Type 0 where
   pub all : TookAll took before text after
   pub part : List ℕ

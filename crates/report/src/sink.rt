@@ -19,7 +19,7 @@ pub(crate) trait Sink {
     fn put(&mut self, piece: &[u8])
         ensures { took self.old piece.now self.new };
 
-    /// Whether no piece changes the sink any more.
+    /// True only where no piece changes the sink any more.
     fn is_spent(&self) -> bool
         ensures { IsTrue result → (piece : List ℕ) → took self.now piece self.now };
 }

@@ -24,7 +24,7 @@ pub equal_same : (a b : State) → IsTrue (same_state a b) ↔ (a ≡ b)
 equal_same a b = (there, back)
   where
     of_slots : (pointwise slots.slot_eq a.slots b.slots ≡ true → a.slots ≡ b.slots) × (a.slots ≡ b.slots → pointwise slots.slot_eq a.slots b.slots ≡ true)
-    -- found anew and not by `slots.equal_same`, so that a false `==` on slots is refused there, at the fact that it breaks
+    -- found anew and not by `slots.equal_same`, so that a false `==` on slots is refused at that law and not at its use here
     of_slots = pointwise_decides (λ x y. Prim.search rules) a.slots b.slots
 
     of_marks : (pointwise marks.mark_eq a.marks b.marks ≡ true → a.marks ≡ b.marks) × (a.marks ≡ b.marks → pointwise marks.mark_eq a.marks b.marks ≡ true)
