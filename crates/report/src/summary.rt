@@ -1,10 +1,10 @@
 //! The lines of the tasks in a report.
 
-ghost use Rattle.std.specs.Prelude.{◌≡◌, ◌*◌, length};
+ghost use Rattle.std.specs.Prelude.{◌≡◌, ◌*◌, ◌≤◌, length};
 ghost use Rattle.report.specs.Sinks.{Reaches};
 ghost use Rattle.report.specs.Reports.{task_words, task_lines};
 
-use crate::line::put_line;
+use crate::line::{bound_line, put_line};
 use crate::sink::Sink;
 use crate::word::Word;
 use schedule::Summary;
@@ -28,5 +28,14 @@ pub(crate) fn put_tasks<S: Sink>(sink: &mut S, summaries: &[Summary])
             return;
         }
         put_line(sink, Word::Number(task as u64), &task_words(*summary));
+    }
+}
+
+/// Computes nothing: whoever calls it knows how long the lines of the tasks can be.
+pub(crate) fn bound_tasks(summaries: &[Summary])
+    ensures { length (task_lines 0 summaries.now) ≤ 84 * length summaries.now }
+{
+    for (task, summary) in summaries.iter().enumerate() {
+        bound_line(Word::Number(task as u64), &task_words(*summary));
     }
 }

@@ -5,11 +5,11 @@ ghost use Rattle.report.specs.Buffers.{Whole, Written};
 ghost use Rattle.report.specs.Sinks.{Reaches};
 ghost use Rattle.report.specs.Texts.{most_of, whole_text};
 
-use crate::line::put_line;
+use crate::line::{bound_line, put_line};
 use crate::sink::Sink;
 use crate::sink::lent::Lent;
 use crate::sink::room::Room;
-use crate::summary::put_tasks;
+use crate::summary::{bound_tasks, put_tasks};
 use crate::word::Word;
 use fault::{Cause, Fault, Layer};
 use schedule::Summary;
@@ -47,9 +47,28 @@ impl<'a> Text<'a> {
             (length (whole_text self.now) ≤ room)
             ((room < length (whole_text self.now)) × (room < most_of self.now)) }
     {
+        // a room that is enough for the longest words needs no measure
+        if self.most() <= room as u128 {
+            self.bound();
+            return true;
+        }
         let mut room = Room { left: Some(room) };
         self.put(&mut room);
         room.left.is_some()
+    }
+
+    fn most(&self) -> u128
+        ensures { result ≡ most_of self.now }
+    {
+        84 * (self.tasks.len() as u128) + (21 * (self.words.len() as u128) + 21)
+    }
+
+    /// Computes nothing: whoever calls it knows that `most` bytes are enough.
+    fn bound(&self)
+        ensures { length (whole_text self.now) ≤ most_of self.now }
+    {
+        bound_line(self.first, self.words);
+        bound_tasks(self.tasks);
     }
 
     fn fill(&self, out: &mut [u8]) -> usize
