@@ -38,7 +38,10 @@ pub trait MarkRule {
 
     /// Both at once, for a rule of which the one needs the other: the mark of the task once it has the core again, and the delay.
     fn pay(&self, task: usize, mark: Mark) -> (Mark, u16)
-        ensures { result ≡ ((profile self.now).resume task mark, (profile self.now).answer task mark) }
+        ensures { result ≡ (
+          (profile self.now).resume task mark,
+          (profile self.now).answer task mark,
+        ) }
     {
         (self.resume(task, mark), self.answer(task, mark))
     }

@@ -20,7 +20,8 @@ fn task_words(summary: Summary) -> [Word; 3]
 }
 
 pub(crate) fn put_tasks<S: Sink>(sink: &mut S, summaries: &[Summary])
-    ensures { Reaches S.took (84 * length summaries.now) (task_lines 0 summaries.now) sink.old sink.new }
+    ensures { Reaches S.took (84 * length summaries.now)
+        (task_lines 0 summaries.now) sink.old sink.new }
 {
     for (task, summary) in summaries.iter().enumerate() {
         // a room that is used up is measured no further, however many tasks follow

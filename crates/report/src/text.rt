@@ -14,6 +14,12 @@ use crate::word::Word;
 use fault::{Cause, Fault, Layer};
 use schedule::Summary;
 
+/// A word and its blank or newline have no more bytes.
+const MOST_OF_WORD: u128 = 21;
+
+/// The line of a task has four words.
+const MOST_OF_TASK: u128 = 4 * MOST_OF_WORD;
+
 /// What a report says: a line of words, and a line for each task.
 #[derive(Clone, Copy)]
 pub(crate) struct Text<'a> {
@@ -60,7 +66,8 @@ impl<'a> Text<'a> {
     fn most(&self) -> u128
         ensures { result ≡ most_of self.now }
     {
-        84 * (self.tasks.len() as u128) + (21 * (self.words.len() as u128) + 21)
+        let line = MOST_OF_WORD * (self.words.len() as u128) + MOST_OF_WORD;
+        MOST_OF_TASK * (self.tasks.len() as u128) + line
     }
 
     /// Computes nothing: whoever calls it knows that `most` bytes are enough.
